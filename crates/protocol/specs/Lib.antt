@@ -1,0 +1,12 @@
+pub mod Sizes
+pub mod Fields
+pub mod Numbers
+pub mod Hello
+pub mod Checksum
+pub mod Messages
+pub mod Layouts
+pub mod Checks
+pub mod Answers
+pub mod Reading
+pub mod WellFormed
+pub mod Unread

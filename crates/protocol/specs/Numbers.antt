@@ -1,0 +1,54 @@
+-- Document 01, 'Packet layouts' and 'Updates': CA numbers and CSA numbers.
+-- Assumes nothing.
+use Prim.Native.Nat.{ℕ, _+_, _%_}
+use mathlib.Core.Bool.{Bool}
+use lib.IntN.{ℤ, pos, negsuc, _+ℤ_}
+use lib.Signed.{ltZ, leZ}
+use mir.Syntax.{w32}
+use mir.Val.{toZ, ofZ}
+use Rattle.laws.specs.Choice.{pick}
+use Rattle.protocol.specs.declared.CaNumber.{CaNumber}
+use Rattle.protocol.specs.declared.CsaNumber.{CsaNumber}
+use Rattle.protocol.specs.declared.Step.{Step}
+use Rattle.protocol.specs.declared.Step.the-variants.{Number, Spent}
+
+abbrev pub ca : ℕ → CaNumber
+ca n = record { 0 = n }
+
+abbrev pub csa : ℤ → CsaNumber
+csa n = record { 0 = n }
+
+-- 'one after 4294967295 comes 0'
+abbrev pub nextCa : CaNumber → CaNumber
+nextCa n = ca ((n .0 + 1) % 4294967296)
+
+-- a CSA number of 32 bits, in two's complement, and its bits
+abbrev pub csaOf : ℕ → CsaNumber
+csaOf bits = csa (toZ w32 bits)
+
+abbrev pub bitsOf : CsaNumber → ℕ
+bitsOf n = ofZ w32 (n .0)
+
+-- -2147483648, 'is reserved'
+abbrev pub reserved : CsaNumber
+reserved = csa (negsuc 2147483647)
+
+-- -2147483647, the number of 'our new entry'
+abbrev pub firstNumber : CsaNumber
+firstNumber = csa (negsuc 2147483646)
+
+-- 2147483647, the number of a purged entry
+abbrev pub purged : CsaNumber
+purged = csa (pos 2147483647)
+
+-- a is newer than b: 'its number is greater as a signed number'
+abbrev pub newer : CsaNumber → CsaNumber → Bool
+newer a b = ltZ (b .0) (a .0)
+
+-- 'number spent': '2147483646 or more'
+abbrev pub spent : CsaNumber → Bool
+spent n = leZ (pos 2147483646) (n .0)
+
+-- 'each change adds one', unless the number is spent
+abbrev pub nextCsa : CsaNumber → Step
+nextCsa n = pick (spent n) Spent (Number (csa (n .0 +ℤ pos 1)))
