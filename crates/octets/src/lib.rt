@@ -1,0 +1,77 @@
+// Octets of a lent slice: fields read, parts handed back, octets put in place.
+// The readers are total: an octet beyond the end is 0, a part beyond the end is shorter.
+ghost use mathlib.Core.Path.{_≡_};
+ghost use Prim.Native.Nat.{_+_, _≤_};
+ghost use lib.ListN.{length, take, drop};
+ghost use Rattle.laws.specs.Lists.{part};
+ghost use Rattle.laws.specs.Puts.{Put};
+ghost use Rattle.protocol.specs.Fields as fields;
+
+pub fn octet(p: &[u8], at: usize) -> u8
+    ensures { λ r. ⌜ r ≡ fields.octet (now (p .entry)) at ⌝ }
+{
+    if at < p.len() {
+        return p[at];
+    }
+    0
+}
+
+// What stands from a position on.
+pub fn tail(p: &[u8], at: usize) -> &[u8]
+    ensures { λ r. ⌜ now r ≡ drop at (now (p .entry)) ⌝ }
+{
+    if at < p.len() {
+        return &p[at..];
+    }
+    &p[..0]
+}
+
+// The first n octets, or all.
+pub fn first(p: &[u8], n: usize) -> &[u8]
+    ensures { λ r. ⌜ now r ≡ take n (now (p .entry)) ⌝ }
+{
+    if n < p.len() {
+        return &p[..n];
+    }
+    p
+}
+
+// The n octets from a position on, or those that there are.
+pub fn part_of(p: &[u8], at: usize, n: usize) -> &[u8]
+    ensures { λ r. ⌜ now r ≡ part (now (p .entry)) at n ⌝ }
+{
+    first(tail(p, at), n)
+}
+
+pub fn field2(p: &[u8], at: usize) -> u16
+    ensures { λ r. ⌜ r ≡ fields.field2 (now (p .entry)) at ⌝ }
+{
+    let s = tail(p, at);
+    (octet(s, 0) as u16) * 256 + (octet(s, 1) as u16)
+}
+
+pub fn field4(p: &[u8], at: usize) -> u32
+    ensures { λ r. ⌜ r ≡ fields.field4 (now (p .entry)) at ⌝ }
+{
+    let s = tail(p, at);
+    (((octet(s, 0) as u32) * 256 + (octet(s, 1) as u32)) * 256 + (octet(s, 2) as u32)) * 256
+        + (octet(s, 3) as u32)
+}
+
+// src at a position of out: the next position.
+pub fn put(out: &mut [u8], at: usize, src: &[u8]) -> usize
+    requires { ⌜ at + length (now src) ≤ length (now out) ⌝ }
+    ensures { λ r. ⌜ Put (now (src .entry)) at (now (out .entry)) (now (out .exit)) r ⌝ }
+{
+    let to = at + src.len();
+    bytes::copy(src, &mut out[at..to]);
+    to
+}
+
+// The first n octets of src, or all.
+pub fn put_first(out: &mut [u8], at: usize, src: &[u8], n: usize) -> usize
+    requires { ⌜ at + length (now src) ≤ length (now out) ⌝ }
+    ensures { λ r. ⌜ Put (take n (now (src .entry))) at (now (out .entry)) (now (out .exit)) r ⌝ }
+{
+    put(out, at, first(src, n))
+}
