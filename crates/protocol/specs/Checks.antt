@@ -75,19 +75,25 @@ countMost CsuReply = recordsMost
 countMost Csus = recordsMost
 countMost Hello = receiversMost
 
--- Protocol ID, Server Group ID, unused, flags, sender length, receiver length, number of records, sender ID, receiver ID
-abbrev pub commonChecks : ℕ → Kind → List ℕ → ℕ → List Checked
-commonChecks w k p c =
-    field p c 2 true
-    ∷ field p (c + 2) 2 true
-    ∷ field p (c + 4) 2 true
-    ∷ field p (c + 6) 2 true
-    ∷ field p (c + 8) 1 (eqb (octet p (c + 8)) w)
+-- Protocol ID, Server Group ID, unused, flags
+abbrev pub plainChecks : List ℕ → ℕ → List Checked
+plainChecks p c = field p c 2 true ∷ field p (c + 2) 2 true ∷ field p (c + 4) 2 true ∷ field p (c + 6) 2 true ∷ []
+
+-- sender length, receiver length, number of records
+abbrev pub lengthChecks : ℕ → Kind → List ℕ → ℕ → List Checked
+lengthChecks w k p c =
+    field p (c + 8) 1 (eqb (octet p (c + 8)) w)
     ∷ field p (c + 9) 1 (receiverLengthGood w k (octet p (c + 9)))
     ∷ field p (c + 10) 2 (leb (field2 p (c + 10)) (countMost k))
-    ∷ field p (c + 12) w true
-    ∷ field p (c + 12 + w) (octet p (c + 9)) true
     ∷ []
+
+-- sender ID, receiver ID
+abbrev pub idChecks : ℕ → List ℕ → ℕ → List Checked
+idChecks w p c = field p (c + commonSize) w true ∷ field p (c + commonSize + w) (octet p (c + 9)) true ∷ []
+
+-- the common part at c
+abbrev pub commonChecks : ℕ → Kind → List ℕ → ℕ → List Checked
+commonChecks w k p c = plainChecks p c ++ (lengthChecks w k p c ++ idChecks w p c)
 
 unfoldable pub headCheck : ℕ → Kind → List ℕ → Checked
 headCheck w k p = firstBreak (beforeChecks k p ++ commonChecks w k p (commonAt k))
@@ -120,19 +126,28 @@ purgedBits = 2147483647
 abbrev pub payloadGood : Bool → ℕ → ℕ → Bool
 payloadGood null bits n = leb n payloadMost && (eqb n 0 || (not null && not (eqb bits purgedBits)))
 
--- hop count, record length, key length, originator length, N, CSA sequence number, key, originator, payload
-abbrev pub recordChecks : ℕ → Kind → List ℕ → ℕ → List Checked
-recordChecks w k p r =
+-- hop count, record length, key length, originator length
+abbrev pub recordLengthChecks : ℕ → Kind → List ℕ → ℕ → List Checked
+recordLengthChecks w k p r =
     field p r 2 (ltb 0 (field2 p r))
     ∷ field p (r + 2) 2 (leb (r + field2 p (r + 2)) (length p))
     ∷ field p (r + 4) 1 (keyLengthGood k (octet p (r + 4)) (summarySize w p r) (field2 p (r + 2)))
     ∷ field p (r + 5) 1 (eqb (octet p (r + 5)) w)
-    ∷ field p (r + 6) 2 (isRequest k || not (nullAt p r))
+    ∷ []
+
+-- N, CSA sequence number, key, originator, payload
+abbrev pub recordContentChecks : ℕ → Kind → List ℕ → ℕ → List Checked
+recordContentChecks w k p r =
+    field p (r + 6) 2 (isRequest k || not (nullAt p r))
     ∷ field p (r + 8) 4 (not (eqb (field4 p (r + 8)) reservedBits))
     ∷ field p (r + recordSize) (octet p (r + 4)) true
     ∷ field p (r + recordSize + octet p (r + 4)) w true
     ∷ field p (r + summarySize w p r) (payloadSize w p r) (payloadGood (nullAt p r) (field4 p (r + 8)) (payloadSize w p r))
     ∷ []
+
+-- the record at r
+abbrev pub recordChecks : ℕ → Kind → List ℕ → ℕ → List Checked
+recordChecks w k p r = recordLengthChecks w k p r ++ recordContentChecks w k p r
 
 -- a receiver: one length octet and an ID
 abbrev pub receiverChecks : ℕ → List ℕ → ℕ → List Checked
