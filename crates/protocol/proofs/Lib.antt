@@ -1,7 +1,17 @@
 pub mod Worked
+pub mod Places
+pub mod RecordBack
+pub mod ElementsBack
+pub mod HeadBack
+pub mod Lengths
+pub mod ReadBack
+pub mod PacketOctets
+pub mod SumBack
+pub mod PacketBack
 pub mod Codes
 pub mod Peel
 pub mod Told
 pub mod RecordExact
 pub mod Exact
 pub mod ReadWellFormed
+pub mod Refused
