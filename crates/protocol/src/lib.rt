@@ -56,3 +56,37 @@ pub enum Alignment {
     Update,
     Aligned,
 }
+
+// The sequence number and the flags of a CA.
+pub struct CaHead {
+    pub number: CaNumber,
+    pub flags: CaFlags,
+}
+
+// When something was last done, if it was.
+pub enum Last {
+    Never,
+    At(u32),
+}
+
+// The Hello and the alignment machine of a slot, with what their moves go by: the last Hello taken, the CA number, the
+// last CA taken, and whether our last CA said that more follows.
+pub struct Link {
+    pub hello: HelloState,
+    pub heard: u32,
+    pub interval: u16,
+    pub factor: u16,
+    pub alignment: Alignment,
+    pub role: Role,
+    pub number: CaNumber,
+    pub last: CaHead,
+    pub more: bool,
+}
+
+// When each kind of packet was last sent to a slot: a Hello since link up, the others since Negotiate began.
+pub struct Timers {
+    pub hello: Last,
+    pub ca: Last,
+    pub csus: Last,
+    pub update: Last,
+}

@@ -1,0 +1,5 @@
+pub mod Checking
+pub mod Readings
+pub mod Records
+pub mod Signed
+pub mod Sums

@@ -1,0 +1,24 @@
+use Rattle.wire.proofs.Checking.{head}
+use borrow.Author.Needs.{needs}
+use Rattle.wire.proofs.check.head_check.Statement.{statement}
+use Rattle.wire.proofs.check.head_check.Tie as tie
+
+returns : tie.Need-returns
+returns c =
+    let a = c .before .before .before .before .before .before .before .before .before .args in
+    head (a .k) (a .p .now) (c .before .before .before .before .before .before .before .common-at .ensures .0) (c .before .before .before .before .before .before .before-check .ensures) (c .before .before .before .before .before .plain-check .ensures) (c .before .before .before .before .length-check .ensures)
+    (c .before .before .before .id-check .ensures) (c .before .before .and-then .ensures) (c .before .and-then2 .ensures) (c .and-then3 .ensures)
+
+pub head-check-spec : {M : Type 1} → statement M
+head-check-spec =
+    tie.close
+    (tie.spec
+    (λ c κs. search needs)
+    (λ c κs. search needs)
+    (λ c κs. search needs)
+    (λ c κs. search needs)
+    (λ c κs. search needs)
+    (λ c κs. search needs)
+    (λ c κs. search needs)
+    (λ c κs. search needs)
+    returns)

@@ -1,0 +1,67 @@
+use mathlib.Core.Path.{_≡_, sym, _∙_}
+use mathlib.Core.Bool.{true}
+use borrow.Author.Tests.{not-true, not-false}
+use Rattle.protocol.specs.Sizes.{idLength}
+use Rattle.protocol.specs.Checksum.{goodSum}
+use Rattle.protocol.specs.Answers.{lengthGood, versionGood, typeGood}
+use Rattle.wire.proofs.Readings.{equal, unequal, short, code-5, code-6, code-7, code-8, code-9, code-0}
+use borrow.Author.Needs.{needs}
+use Rattle.wire.proofs.read.fixed_code.Statement.{statement}
+use Rattle.wire.proofs.read.fixed_code.Tie as tie
+
+-- what each test that was passed tells
+length-ok : (c : tie.Else1) → lengthGood idLength (c .before .before .before .args .p .now) ≡ true
+length-ok c = sym (c .before .length-good .ensures) ∙ not-false (c .before .length-good .result) (c .if1 .left)
+
+version-ok : (c : tie.Else2) → versionGood (c .before .before .before .before .before .args .p .now) ≡ true
+version-ok c = equal 1 (c .before .octet .ensures) (c .if2 .left)
+
+type-ok : (c : tie.Else3) → typeGood (c .before .before .before .before .before .before .before .args .p .now) ≡ true
+type-ok c = sym (c .before .type-good .ensures) ∙ not-false (c .before .type-good .result) (c .if3 .left)
+
+sum-ok : (c : tie.Else4) → goodSum (c .before .before .before .before .before .before .before .before .before .args .p .now) ≡ true
+sum-ok c = equal 65535 (c .before .ones-sum .ensures) (c .if4 .left)
+
+returns : tie.Need-returns
+returns c = code-5 (c .before .before .before .args .p .now) (sym (c .before .length-good .ensures) ∙ not-true (c .before .length-good .result) (c .if1 .taken))
+
+returns-2 : tie.Need-returns-2
+returns-2 c = code-6 (c .before .before .before .before .before .args .p .now) (length-ok (c .before .before)) (unequal 1 (c .before .octet .ensures) (c .if2 .taken))
+
+returns-3 : tie.Need-returns-3
+returns-3 c =
+    code-7 (c .before .before .before .before .before .before .before .args .p .now) (length-ok (c .before .before .before .before)) (version-ok (c .before .before))
+    (sym (c .before .type-good .ensures) ∙ not-true (c .before .type-good .result) (c .if3 .taken))
+
+ones-sum-requires : tie.Need-ones-sum-requires
+ones-sum-requires c κs = short (c .before .before .before .before .before .before .before .args .p .now) (length-ok (c .before .before .before .before))
+
+returns-4 : tie.Need-returns-4
+returns-4 c =
+    code-8 (c .before .before .before .before .before .before .before .before .before .args .p .now) (length-ok (c .before .before .before .before .before .before)) (version-ok (c .before .before .before .before)) (type-ok (c .before .before)) (unequal 65535 (c .before .ones-sum .ensures) (c .if4 .taken))
+
+returns-5 : tie.Need-returns-5
+returns-5 c =
+    code-9 (c .before .before .before .before .before .before .before .before .before .before .before .args .p .now) (length-ok (c .before .before .before .before .before .before .before .before)) (version-ok (c .before .before .before .before .before .before)) (type-ok (c .before .before .before .before)) (sum-ok (c .before .before))
+    (unequal 0 (c .before .field2 .ensures) (c .if5 .taken))
+
+returns-6 : tie.Need-returns-6
+returns-6 c =
+    code-0 (c .before .before .before .before .before .before .before .before .before .before .before .args .p .now) (length-ok (c .before .before .before .before .before .before .before .before)) (version-ok (c .before .before .before .before .before .before)) (type-ok (c .before .before .before .before)) (sum-ok (c .before .before))
+    (equal 0 (c .before .field2 .ensures) (c .if5 .left))
+
+pub fixed-code-spec : {M : Type 1} → statement M
+fixed-code-spec =
+    tie.close
+    (tie.spec
+    (λ c κs. search needs)
+    returns
+    (λ c κs. search needs)
+    returns-2
+    (λ c κs. search needs)
+    returns-3
+    ones-sum-requires
+    returns-4
+    (λ c κs. search needs)
+    returns-5
+    returns-6)
