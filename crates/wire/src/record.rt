@@ -43,7 +43,7 @@ fn record_at(p: &[u8], r: usize) -> Csa
     let key_len = octets::octet(p, r + 4) as usize;
     let hops = octets::field2(p, r);
     let null = crate::check::null_at(p, r);
-    let number = crate::numbers::csa_of(octets::field4(p, r + 8));
+    let number = numbers::csa_of(octets::field4(p, r + 8));
     let payload_at = r + crate::check::summary_size(p, r);
     let payload_len = crate::check::payload_size(p, r);
     Csa {

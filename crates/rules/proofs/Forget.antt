@@ -1,0 +1,141 @@
+-- The links of a slot move alike whether or not Aligned is told from Update, and a slot moved has the link that it is moved to.
+-- Assumes nothing.
+use Prim.Native.Nat.{ℕ}
+use mathlib.Core.Path.{_≡_, refl, ap, _∙_}
+use mathlib.Core.Bool.{Bool, true, false, _&&_, _||_}
+use mathlib.Core.List.{List}
+use Rattle.laws.specs.Choice.{pick}
+use Rattle.laws.specs.Lists.{isEmpty}
+use Rattle.protocol.specs.declared.Role.{Role}
+use Rattle.protocol.specs.declared.Role.the-variants.{Master, Slave}
+use Rattle.protocol.specs.declared.Alignment.{Alignment}
+use Rattle.protocol.specs.declared.Alignment.the-variants.{Down, Negotiate, Summarize, Update, Aligned}
+use Rattle.protocol.specs.declared.Link.{Link}
+use Rattle.rules.specs.Server.{Slot}
+use Rattle.rules.specs.Links.{isLive, isPast, isDown, isBidirectional, hearsPeer, enters, withAlignment, recorded, negotiating, upMove, downMove, helloMove, malformedMove, checkMove, CaIn, CaRule, refuse, becomeSlave, becomeMaster, repeat, slaveOn, masterOn, masterDone, ignore, restart, pastRule, ruleIn, caRule, caMove}
+use Rattle.protocol.specs.Hello.{stale}
+use Rattle.rules.specs.Slots.{withLink, emptied, moved, alignedIf, completed}
+use Rattle.rules.proofs.Relation.{pastAs, forget, linkOf}
+
+-- ---- tests and rules do not tell Aligned from Update
+pub past-twice : (a : Alignment) → pastAs (pastAs a) ≡ pastAs a
+past-twice Down = refl
+past-twice Negotiate = refl
+past-twice (Summarize r) = refl
+past-twice Update = refl
+past-twice Aligned = refl
+
+pub forget-twice : (l : Link) → forget (forget l) ≡ forget l
+forget-twice l = ap (λ a. withAlignment a l) (past-twice (l .alignment))
+
+pub live-past : (a : Alignment) → isLive (pastAs a) ≡ isLive a
+live-past Down = refl
+live-past Negotiate = refl
+live-past (Summarize r) = refl
+live-past Update = refl
+live-past Aligned = refl
+
+pub past-past : (a : Alignment) → isPast (pastAs a) ≡ isPast a
+past-past Down = refl
+past-past Negotiate = refl
+past-past (Summarize r) = refl
+past-past Update = refl
+past-past Aligned = refl
+
+enters-from : (a b : Alignment) → enters (pastAs a) b ≡ enters a b
+enters-from Down b = refl
+enters-from Negotiate b = refl
+enters-from (Summarize r) b = refl
+enters-from Update b = refl
+enters-from Aligned Down = refl
+enters-from Aligned Negotiate = refl
+enters-from Aligned (Summarize r) = refl
+enters-from Aligned Update = refl
+enters-from Aligned Aligned = refl
+
+enters-to : (a b : Alignment) → enters a (pastAs b) ≡ enters a b
+enters-to a Down = refl
+enters-to a Negotiate = refl
+enters-to a (Summarize r) = refl
+enters-to a Update = refl
+enters-to Down Aligned = refl
+enters-to Negotiate Aligned = refl
+enters-to (Summarize r) Aligned = refl
+enters-to Update Aligned = refl
+enters-to Aligned Aligned = refl
+
+pub enters-past : (a b : Alignment) → enters (pastAs a) (pastAs b) ≡ enters a b
+enters-past a b = enters-from a (pastAs b) ∙ enters-to a b
+
+role-past : (c : CaIn) (kept : Bool) (l : Link) (b : Alignment) (r : Role) → pastRule c kept (withAlignment b l) r ≡ pastRule c kept l r
+role-past c kept l b Slave = refl
+role-past c kept l b Master = refl
+
+rule-past : (id : List ℕ) (c : CaIn) (kept : Bool) (l : Link) (a b : Alignment) → ruleIn id c kept (withAlignment b l) (pastAs a) ≡ ruleIn id c kept l a
+rule-past id c kept l Down b = refl
+rule-past id c kept l Negotiate b = refl
+rule-past id c kept l (Summarize Slave) b = refl
+rule-past id c kept l (Summarize Master) b = refl
+rule-past id c kept l Update b = role-past c kept l b (l .role)
+rule-past id c kept l Aligned b = role-past c kept l b (l .role)
+
+pub rule-forget : (id : List ℕ) (c : CaIn) (kept : Bool) (l : Link) → caRule id c kept (forget l) ≡ caRule id c kept l
+rule-forget id c kept l = rule-past id c kept l (l .alignment) (pastAs (l .alignment))
+
+-- ---- the moves of a link
+forget-pick : (b : Bool) (l m : Link) → forget (pick b l m) ≡ pick b (forget l) (forget m)
+forget-pick true l m = refl
+forget-pick false l m = refl
+
+pub negotiating-forget : (l : Link) → forget (negotiating l) ≡ negotiating (forget l)
+negotiating-forget l = refl
+
+pub up-forget : (l : Link) → forget (upMove l) ≡ upMove (forget l)
+up-forget l = forget-pick (isDown (l .hello)) _ l
+
+pub down-forget : (l : Link) → forget (downMove l) ≡ downMove (forget l)
+down-forget l = refl
+
+pub malformed-forget : (l : Link) → forget (malformedMove l) ≡ malformedMove (forget l)
+malformed-forget l = refl
+
+pub check-forget : (now : ℕ) (l : Link) → forget (checkMove now l) ≡ checkMove now (forget l)
+check-forget now l = forget-pick (hearsPeer (l .hello) && stale (l .interval) (l .factor) (l .heard) now) _ l
+
+pub hello-forget : (now i f : ℕ) (named : Bool) (l : Link) → forget (helloMove now i f named l) ≡ helloMove now i f named (forget l)
+hello-forget now i f true l = forget-pick (isBidirectional (l .hello)) (recorded now i f l) _
+hello-forget now i f false l = refl
+
+past-pick : (b : Bool) → pastAs (pick b (Summarize Slave) Update) ≡ pick b (Summarize Slave) Update
+past-pick true = refl
+past-pick false = refl
+
+pub ca-forget : (u : CaRule) (c : CaIn) (more : Bool) (l : Link) → forget (caMove u c more l) ≡ caMove u c more (forget l)
+ca-forget refuse c more l = refl
+ca-forget becomeSlave c more l = refl
+ca-forget becomeMaster c more l = refl
+ca-forget repeat c more l = refl
+ca-forget slaveOn c more l = ap (λ a. withAlignment a (caMove slaveOn c more l)) (past-pick (c .head .flags .more || more))
+ca-forget masterOn c more l = refl
+ca-forget masterDone c more l = refl
+ca-forget ignore c more l = refl
+ca-forget restart c more l = refl
+
+-- ---- the link of a slot
+pub link-pick : (b : Bool) (l : Link) (x y : Slot) → x .link ≡ l → y .link ≡ l → pick b x y .link ≡ l
+link-pick true l x y h g = h
+link-pick false l x y h g = g
+
+pub moved-link : (l : Link) (x : Slot) → moved l x .link ≡ l
+moved-link l x = link-pick (enters (x .link .alignment) (l .alignment)) l (emptied (withLink l x)) (withLink l x) refl refl
+
+aligned-past : (b : Bool) (a : Alignment) → pastAs (alignedIf b a) ≡ pastAs a
+aligned-past b Down = refl
+aligned-past b Negotiate = refl
+aligned-past b (Summarize r) = refl
+aligned-past true Update = refl
+aligned-past false Update = refl
+aligned-past b Aligned = refl
+
+pub completed-link : (x : Slot) → linkOf (completed x) ≡ linkOf x
+completed-link x = ap (λ a. withAlignment a (x .link)) (aligned-past (isEmpty (x .requests)) (x .link .alignment))

@@ -1,0 +1,253 @@
+-- The history of demand 3 (document 01, 'Updates'): it 'starts with the settings and nothing else, and is fed only each event's arguments,
+-- code and octets written'. No server is in sight.
+-- Assumes nothing.
+use Prim.Native.Nat.{ℕ, _-_}
+use mathlib.Core.Bool.{Bool, true, false, not, _&&_, _||_}
+use mathlib.Core.List.{List, [], _∷_, map}
+use lib.Dec.{eqb, ltb}
+use lib.ListN.{length, getD, replicate}
+use lib.ListN as lists
+use Rattle.laws.specs.Choice.{pick}
+use Rattle.laws.specs.Lists.{isEmpty}
+use Rattle.laws.specs.Tables.{on, has, update, without}
+use Rattle.protocol.specs.declared.CaHead.{CaHead}
+use Rattle.protocol.specs.declared.Link.{Link}
+use Rattle.protocol.specs.Sizes.{idLength}
+use Rattle.protocol.specs.Numbers.{newer, nextCsa, firstNumber, purged}
+use Rattle.protocol.specs.Messages.{CsaRecord, Message, Body, ca, csuRequest, csuReply, csus, hello}
+use Rattle.protocol.specs.Reading.{Reading, refused, malformed, message, readPacket, flagsAt}
+use Rattle.rules.specs.Server.{slotsMost, rowsMost, Settings, Entry, sameEntry, Value, freshLink}
+use Rattle.rules.specs.Links.{isLive, enters, upMove, downMove, helloMove, malformedMove, checkMove, CaIn, caRule, caMove}
+use Rattle.rules.specs.Rows.{isPurged, anySlot}
+use Rattle.rules.specs.Requests.{entryOf}
+use Rattle.rules.specs.Updates.{hopsMost, value, stepped, valueOf}
+use Rattle.rules.specs.Packets.{namesUs}
+use Rattle.rules.specs.Refusals.{ownEntry}
+use Rattle.rules.specs.Events.{Event, addPeer, linkUp, linkDown, packet, poll, set, withdraw, purge, counts, Place, inSlot, nowhere, placeOf, Item}
+
+-- ---- what is known of an entry that has a row
+-- 'our changes and the taken update records for it, null records apart, since it got the row', in order
+pub data Arrivals : Type 0 where
+  first : Value → Arrivals
+  then : Arrivals → Value → Arrivals
+
+-- 'it holds what came first with the largest number'
+abbrev pub held : Arrivals → Value
+held (first v) = v
+held (then vs v) = pick (newer (v .number) (held vs .number)) v (held vs)
+
+pub data Act : Type 0 where
+  put : Act
+  take : Act
+
+-- 'An entry waits for a slot when its last put there has no take after it'; the acts at a slot stand latest first
+abbrev pub waiting : List Act → Bool
+waiting [] = false
+waiting (put ∷ more) = true
+waiting (take ∷ more) = false
+
+pub record Known : Type 0 where
+  pub entry : Entry
+  pub arrivals : Arrivals
+  pub acts : ℕ → List Act
+
+abbrev pub known : Entry → Arrivals → (ℕ → List Act) → Known
+known e vs acts = record { entry = e; arrivals = vs; acts = acts }
+
+abbrev pub nowHeld : Known → Value
+nowHeld x = held (x .arrivals)
+
+abbrev pub waitsAt : (ℕ → List Act) → ℕ → Bool
+waitsAt acts k = waiting (acts k)
+
+-- the slots as they moved, and the entries that have rows
+pub record History : Type 0 where
+  pub links : List Link
+  pub entries : List Known
+
+-- ---- puts and takes
+abbrev pub act : ℕ → Act → (ℕ → List Act) → ℕ → List Act
+act k a acts = on k (a ∷ acts k) acts
+
+abbrev pub noActs : ℕ → List Act
+noActs j = []
+
+-- 'a change of ours' is a put at each slot in Summarize, Update or Aligned
+abbrev pub ownActs : (ℕ → Bool) → (ℕ → List Act) → ℕ → List Act
+ownActs live acts j = pick (live j) (put ∷ acts j) (acts j)
+
+-- a change 'stored from another slot .. with remaining 1 or more' is a put; 'an equal or newer record from it', and 'any change stored
+-- with remaining 0', is a take
+abbrev pub storedActs : (ℕ → Bool) → ℕ → ℕ → (ℕ → List Act) → ℕ → List Act
+storedActs live k remaining acts j =
+    pick (ltb 0 remaining && (live j && not (eqb j k))) (put ∷ acts j)
+    (pick (not (ltb 0 remaining) || eqb j k) (take ∷ acts j) (acts j))
+
+-- ---- tests of an entry
+abbrev pub isOf : Entry → Known → Bool
+isOf e x = sameEntry (x .entry) e
+
+-- it is the entry e, and waits for slot k
+abbrev pub waitsFor : ℕ → Entry → Known → Bool
+waitsFor k e x = sameEntry (x .entry) e && waitsAt (x .acts) k
+
+-- purged, and waits for nobody
+abbrev pub isDone : Known → Bool
+isDone x = isPurged (nowHeld x .number) && not (anySlot (waitsAt (x .acts)))
+
+-- ---- the records of a CSU Request
+-- an entry gets a row while fewer than 64 are held
+abbrev pub admit : Known → List Known → List Known
+admit x es = pick (ltb (length es) rowsMost) (x ∷ es) es
+
+abbrev pub opened : (ℕ → Bool) → ℕ → CsaRecord → Known
+opened live k r = known (entryOf r) (first (valueOf r)) (storedActs live k (r .hops - 1) noActs)
+
+-- a newer record is stored; 'an older record from this slot, with remaining 1 or more' is a put; an equal one a take
+abbrev pub arrived : (ℕ → Bool) → ℕ → CsaRecord → Known → Known
+arrived live k r x =
+    known (x .entry) (then (x .arrivals) (valueOf r))
+    (pick (newer (r .number) (nowHeld x .number)) (storedActs live k (r .hops - 1) (x .acts))
+    (pick (newer (nowHeld x .number) (r .number)) (pick (ltb 0 (nowHeld x .remaining)) (act k put (x .acts)) (x .acts))
+    (act k take (x .acts))))
+
+-- 'A null record (N set) is neither held, put nor take'; a purge of an absent entry gets no row
+abbrev pub noted : (ℕ → Bool) → ℕ → CsaRecord → List Known → List Known
+noted live k r es =
+    pick (r .null) es
+    (pick (has (isOf (entryOf r)) es) (update (isOf (entryOf r)) (arrived live k r) es)
+    (pick (isPurged (r .number)) es (admit (opened live k r) es)))
+
+abbrev pub allNoted : (ℕ → Bool) → ℕ → List CsaRecord → List Known → List Known
+allNoted live k [] es = es
+allNoted live k (r ∷ rs) es = allNoted live k rs (noted live k r es)
+
+-- ---- the records of a CSU Reply: 'a reply from it with the held number' is a take
+abbrev pub answered : ℕ → CsaRecord → Known → Known
+answered k r x =
+    known (x .entry) (x .arrivals)
+    (pick (newer (r .number) (nowHeld x .number)) (x .acts)
+    (pick (newer (nowHeld x .number) (r .number)) (x .acts) (act k take (x .acts))))
+
+abbrev pub allAnswered : ℕ → List CsaRecord → List Known → List Known
+allAnswered k [] es = es
+allAnswered k (r ∷ rs) es = allAnswered k rs (update (isOf (entryOf r)) (answered k r) es)
+
+-- ---- changes of ours
+abbrev pub changed : (ℕ → Bool) → List ℕ → Known → Known
+changed live payload x =
+    known (x .entry) (then (x .arrivals) (value (stepped (nowHeld x .number) (nextCsa (nowHeld x .number))) payload hopsMost))
+    (ownActs live (x .acts))
+
+abbrev pub created : (ℕ → Bool) → Entry → List ℕ → Known
+created live e payload = known e (first (value firstNumber payload hopsMost)) (ownActs live noActs)
+
+abbrev pub purging : (ℕ → Bool) → Known → Known
+purging live x = known (x .entry) (then (x .arrivals) (value purged [] hopsMost)) (ownActs live (x .acts))
+
+-- ---- 'entering Down or Negotiate' is a take of every entry
+abbrev pub left : ℕ → Known → Known
+left k x = known (x .entry) (x .arrivals) (act k take (x .acts))
+
+abbrev pub leftIf : Bool → ℕ → List Known → List Known
+leftIf true k es = map (left k) es
+leftIf false k es = es
+
+-- ---- the slots move, 'our CAs as written'
+-- the O bit of a CA
+abbrev pub moreIn : List ℕ → Bool
+moreIn p = flagsAt p 18 .more
+
+-- a CA in Update or Aligned is answered exactly when a kept CA is repeated
+abbrev pub caLink : List ℕ → CaIn → List ℕ → Link → Link
+caLink id c written l = caMove (caRule id c (not (isEmpty written)) l) c (moreIn written) l
+
+abbrev pub bodyLink : Body → Settings → ℕ → Message → List ℕ → Link → Link
+bodyLink (hello i f ids) s now m written l = helloMove now i f (namesUs (s .id) (m .receiver) ids) l
+bodyLink (ca n f rs) s now m written l =
+    caLink (s .id) (record { head = record { number = n; flags = f }; sender = m .sender; empty = isEmpty rs }) written l
+bodyLink (csuRequest rs) s now m written l = l
+bodyLink (csuReply rs) s now m written l = l
+bodyLink (csus rs) s now m written l = l
+
+abbrev pub readLink : Reading → Settings → ℕ → List ℕ → Link → Link
+readLink (refused c) s now written l = l
+readLink (malformed at) s now written l = malformedMove l
+readLink (message m) s now written l = bodyLink (m .body) s now m written l
+
+abbrev pub linkAfter : Event → Settings → List ℕ → Link → Link
+linkAfter (addPeer k id) s written l = freshLink
+linkAfter (linkUp k now) s written l = upMove l
+linkAfter (linkDown k now) s written l = downMove l
+linkAfter (packet k now p room) s written l = readLink (readPacket idLength p) s now written l
+linkAfter (poll k now room) s written l = checkMove now l
+linkAfter (set key payload) s written l = l
+linkAfter (withdraw key) s written l = l
+linkAfter (purge key) s written l = l
+
+abbrev pub linkAt : List Link → ℕ → Link
+linkAt ls k = getD ls k freshLink
+
+abbrev pub linksAfter : Place → Event → Settings → List ℕ → List Link → List Link
+linksAfter (inSlot k) e s written ls = lists.set ls k (linkAfter e s written (linkAt ls k))
+linksAfter nowhere e s written ls = ls
+
+-- the slots in Summarize, Update or Aligned
+abbrev pub liveLinks : List Link → ℕ → Bool
+liveLinks ls j = isLive (linkAt ls j .alignment)
+
+-- ---- the entries
+abbrev pub bodyEntries : Body → (ℕ → Bool) → ℕ → List Known → List Known
+bodyEntries (hello i f ids) live k es = es
+bodyEntries (ca n f rs) live k es = es
+bodyEntries (csuRequest rs) live k es = allNoted live k rs es
+bodyEntries (csuReply rs) live k es = allAnswered k rs es
+bodyEntries (csus rs) live k es = es
+
+abbrev pub readEntries : Reading → (ℕ → Bool) → ℕ → List Known → List Known
+readEntries (refused c) live k es = es
+readEntries (malformed at) live k es = es
+readEntries (message m) live k es = bodyEntries (m .body) live k es
+
+abbrev pub entriesChanged : Event → Settings → (ℕ → Bool) → List Known → List Known
+entriesChanged (addPeer k id) s live es = es
+entriesChanged (linkUp k now) s live es = es
+entriesChanged (linkDown k now) s live es = es
+entriesChanged (packet k now p room) s live es = readEntries (readPacket idLength p) live k es
+entriesChanged (poll k now room) s live es = es
+entriesChanged (set key payload) s live es =
+    pick (has (isOf (ownEntry s key)) es) (update (isOf (ownEntry s key)) (changed live payload) es)
+    (admit (created live (ownEntry s key) payload) es)
+entriesChanged (withdraw key) s live es = update (isOf (ownEntry s key)) (changed live []) es
+entriesChanged (purge key) s live es = update (isOf (ownEntry s key)) (purging live) es
+
+abbrev pub entriesLeft : Place → List Link → List Link → List Known → List Known
+entriesLeft (inSlot k) before after es = leftIf (enters (linkAt before k .alignment) (linkAt after k .alignment)) k es
+entriesLeft nowhere before after es = es
+
+-- ---- one more item: 'Refused events add nothing, the malformed Hello apart'; at an event's end the purged entries that wait for nobody
+-- lose their rows
+abbrev pub noteItem : Settings → History → Item → History
+noteItem s h i =
+    let ls = linksAfter (placeOf (i .event)) (i .event) s (i .written) (h .links) in
+    record {
+      links = ls;
+      entries = without isDone (entriesLeft (placeOf (i .event)) (h .links) ls (entriesChanged (i .event) s (liveLinks (h .links)) (h .entries)));
+    }
+
+abbrev pub addIf : Bool → Settings → History → Item → History
+addIf true s h i = noteItem s h i
+addIf false s h i = h
+
+unfoldable pub add : Settings → History → Item → History
+add s h i = addIf (counts (i .event) (i .code)) s h i
+
+abbrev pub historyFrom : Settings → History → List Item → History
+historyFrom s h [] = h
+historyFrom s h (i ∷ is) = historyFrom s (add s h i) is
+
+abbrev pub noHistory : History
+noHistory = record { links = replicate slotsMost freshLink; entries = [] }
+
+abbrev pub history : Settings → List Item → History
+history s is = historyFrom s noHistory is

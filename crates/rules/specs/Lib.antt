@@ -1,0 +1,15 @@
+pub mod Server
+pub mod Links
+pub mod Rows
+pub mod Requests
+pub mod Updates
+pub mod Slots
+pub mod Sent
+pub mod Alignment
+pub mod Packets
+pub mod Poll
+pub mod Refusals
+pub mod Events
+pub mod Replay
+pub mod History
+pub mod Demand3

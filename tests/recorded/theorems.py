@@ -1,0 +1,79 @@
+#!/usr/bin/env python3
+"""Writes the recorded files of this folder as theorems: crates/runs/proofs.
+
+Each NAME.bin is a replay file, NAME.octets the lines of the reference for it, each with the octets written at that event
+in hexadecimal. A theorem says that the rules, evaluated on the file, give these lines and octets.
+"""
+import os
+
+HERE = os.path.dirname(os.path.abspath(__file__))
+OUT = os.path.join(HERE, "..", "..", "crates", "runs", "proofs")
+RECORD = 292
+EACH = 4          # files to a module
+
+HEAD = """-- Recorded lists of events, evaluated: written by tests/recorded/theorems.py.
+-- Assumes nothing.
+use mathlib.Core.Path.{_≡_, refl}
+use mathlib.Core.List.{[], _∷_}
+use Rattle.protocol.specs.Checksum.{total}
+use Rattle.protocol.specs.Layouts.{recordOctets, recordsOctets, receiversOctets, mandatory, layout, packetOf}
+use Rattle.protocol.specs.Checks.{headCheck, elementCheck, elementsCheck, mandatoryCheck}
+use Rattle.protocol.specs.Answers.{fixedCode}
+use Rattle.protocol.specs.Reading.{recordAt, recordsAt, receiversAt, messageAt, readPacket}
+use Rattle.rules.specs.Rows.{next}
+use Rattle.rules.specs.Events.{codeOf, acted, step, writtenAt}
+use Rattle.rules.specs.Replay.{linesFrom, replay, replayed}
+use Rattle.runs.specs.Recorded.{octetsOf, event, file, line, cut}
+"""
+UNFOLD = ("unfolding octetsOf replayed replay linesFrom codeOf acted step writtenAt next total recordOctets recordsOctets receiversOctets "
+          "mandatory layout packetOf headCheck elementCheck elementsCheck mandatoryCheck fixedCode recordAt recordsAt receiversAt "
+          "messageAt readPacket")
+
+
+def numeral(b):
+    return "0x" + b.hex() if b else "0"
+
+
+def record(r):
+    if len(r) < RECORD:
+        return "octetsOf %d %s []" % (len(r), numeral(r))
+    short = r.rstrip(b"\0")
+    return "event %d %s" % (len(short), numeral(short))
+
+
+def line(text):
+    words = text.split()
+    if words == ["cut"]:
+        return "cut"
+    octets = b"" if words[4] == "-" else bytes.fromhex(words[4])
+    assert len(octets) == int(words[2]), text
+    return "line %s %s %s %s %s" % (*words[:4], numeral(octets))
+
+
+def theorem(name):
+    data = open(os.path.join(HERE, name + ".bin"), "rb").read()
+    lines = open(os.path.join(HERE, name + ".octets")).read().splitlines()
+    records = [data[i:i + RECORD] for i in range(0, len(data), RECORD)]
+    title = name.replace("_", "-")
+    return "\n%s : replayed (file (%s [])) ≡ %s []\n%s\n%s = refl\n" % (
+        title, " ".join(record(r) + " ∷" for r in records), " ".join(line(t) + " ∷" for t in lines), UNFOLD, title)
+
+
+def main():
+    names = sorted(f[:-4] for f in os.listdir(HERE) if f.endswith(".bin"))
+    for f in os.listdir(OUT):
+        if f.startswith("Runs") or f == "Lib.antt":
+            os.remove(os.path.join(OUT, f))
+    modules = []
+    for i in range(0, len(names), EACH):
+        module = "Runs%02d" % (i // EACH + 1)
+        modules.append(module)
+        with open(os.path.join(OUT, module + ".antt"), "w", encoding="utf-8") as out:
+            out.write(HEAD + "".join(theorem(n) for n in names[i:i + EACH]))
+    with open(os.path.join(OUT, "Lib.antt"), "w", encoding="utf-8") as out:
+        out.write("".join("pub mod %s\n" % m for m in modules))
+    print(len(names), "files in", len(modules), "modules")
+
+
+if __name__ == "__main__":
+    main()
