@@ -1,2 +1,3 @@
 pub mod Lists
+pub mod Changes
 pub mod Puts

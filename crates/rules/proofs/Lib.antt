@@ -5,3 +5,9 @@ pub mod Forget
 pub mod LinkSim
 pub mod Others
 pub mod KeptQuiet
+pub mod EntryLaws
+pub mod CsaOrder
+pub mod RowGrows
+pub mod RowsKeep
+pub mod SlotsKeep
+pub mod Invariant

@@ -1,0 +1,141 @@
+-- The rows after each record of a CSU Request or CSU Reply, and after each change of ours.
+-- Assumes nothing.
+use Prim.Native.Nat.{ℕ, zero, suc, _+_, _-_, _≤_}
+use mathlib.Core.Path.{_≡_, refl, ap, _∙_}
+use mathlib.Core.Bool.{Bool, true, false}
+use mathlib.Core.List.{List, [], _∷_}
+use native.Mathlib.Omega.{arith}
+use lib.ListN.{length}
+use Rattle.laws.specs.Choice.{pick}
+use Rattle.laws.specs.Lists.{part, All}
+use Rattle.laws.specs.Tables.{has, change}
+use Rattle.protocol.specs.declared.Kind.{Kind}
+use Rattle.protocol.specs.declared.Kind.the-variants.{Ca, CsuRequest, CsuReply, Csus, Hello}
+use Rattle.protocol.specs.declared.Checked.the-variants.{Fine}
+use Rattle.protocol.specs.Sizes.{idLength, payloadMost, recordSize}
+use Rattle.protocol.specs.Fields.{octet, field2, field4}
+use Rattle.protocol.specs.Messages.{CsaRecord, Message, csuRequest}
+use Rattle.protocol.specs.Checks.{isHello, summarySize, payloadSize, countAt, elementsAt, elementsCheck}
+use Rattle.protocol.specs.Reading.{kindOf, recordAt, recordsAt, bodyAt, messageAt, message, readPacket}
+use Rattle.protocol.proofs.Told.{RecordTold, next-record, told}
+use Rattle.protocol.proofs.Codes.{read-as}
+use Rattle.protocol.proofs.Peel.{part-length}
+use Rattle.rules.specs.Server.{Entry, Row, isFree, holds, rowAt}
+use Rattle.rules.specs.Rows.{isPurged, unmarked, filled}
+use Rattle.rules.specs.Requests.{entryOf}
+use Rattle.rules.specs.Updates.{changedRow, newRow, setRows, withdrawRows, purgedRow, purgeRows, null, purgeAbsent, full, stored, equal, older, outOfDate, ahead, updateRule, valueOf, renewed, owed, rowsBy, Updated, byRule, allUpdated, replied, allReplied}
+use Rattle.rules.proofs.Relation.{SizedEntry, SizedValue, RowsInv}
+use Rattle.rules.proofs.CsaOrder.{toZ-any}
+use Rattle.rules.proofs.RowGrows.{spread-live, good-unmarked, good-owed, good-replied, good-renewed, good-changed, good-purged, Grows, grows-refl, grows-trans, grows-change, grows-filled, outdated}
+
+abbrev pub SizedRecord : CsaRecord → Type 0
+SizedRecord r = SizedEntry (entryOf r) × SizedValue (valueOf r)
+
+-- ---- a record of a CSU Request
+module _ (live : ℕ → Bool) (k : ℕ) (r : CsaRecord) (rows : List Row) (l : live k ≡ true) (z : SizedRecord r) (v : RowsInv live rows) where
+  grows-renewed : has (outOfDate (entryOf r) (r .number)) rows ≡ true → Grows live rows (change (holds (entryOf r)) (renewed live k r) rows)
+  grows-renewed o =
+      grows-change live rows v (holds (entryOf r)) (renewed live k r)
+      (λ i q. good-renewed live k r (z .1) (rowAt rows i) (outdated live rows v (entryOf r) (r .number) o i q))
+
+  by-rule : (n b o g q f : Bool) → has (holds (entryOf r)) rows ≡ b → has (outOfDate (entryOf r) (r .number)) rows ≡ o
+      → Grows live rows (rowsBy (pick n null (pick b (pick o stored (pick g older equal)) (pick q purgeAbsent (pick f stored full)))) live k r rows)
+  by-rule true b o g q f e h = grows-refl live rows v
+  by-rule false true true g q f e h = rw e (grows-renewed h)
+  by-rule false true false true q f e h = grows-change live rows v (holds (entryOf r)) (owed k) (λ i _. good-owed live k l (rowAt rows i))
+  by-rule false true false false q f e h = grows-change live rows v (holds (entryOf r)) (unmarked k) (λ i _. good-unmarked live k (rowAt rows i))
+  by-rule false false o g true f e h = grows-refl live rows v
+  by-rule false false o g false true e h = rw e (grows-filled live rows v (entryOf r) (valueOf r) _ e (spread-live live k (r .hops - 1)) z)
+  by-rule false false o g false false e h = grows-refl live rows v
+
+  pub grows-by : Grows live rows (rowsBy (updateRule r rows) live k r rows)
+  grows-by =
+      by-rule (r .null) (has (holds (entryOf r)) rows) (has (outOfDate (entryOf r) (r .number)) rows) (has (ahead (entryOf r) (r .number)) rows)
+      (isPurged (r .number)) (has isFree rows) refl refl
+
+pub rows-by : (live : ℕ → Bool) (k : ℕ) (r : CsaRecord) (rows : List Row) → live k ≡ true → SizedRecord r → RowsInv live rows
+    → RowsInv live (rowsBy (updateRule r rows) live k r rows)
+rows-by live k r rows l z v = grows-by live k r rows l z v .inv
+
+pub grows-updated : (live : ℕ → Bool) (k : ℕ) → live k ≡ true → (rs : List CsaRecord) → All SizedRecord rs → (x : Updated) → RowsInv live (x .rows)
+    → Grows live (x .rows) (allUpdated live k rs x .rows)
+grows-updated live k l [] z x v = grows-refl live (x .rows) v
+grows-updated live k l (r ∷ rs) z x v =
+    let y : Updated = byRule (updateRule r (x .rows)) live k r x in
+    let g : Grows live (x .rows) (y .rows) = grows-by live k r (x .rows) l (z .0) v in
+    grows-trans (x .rows) (y .rows) (allUpdated live k rs y .rows) g (grows-updated live k l rs (z .1) y (g .inv))
+
+-- ---- a record of a CSU Reply
+grows-replied : (live : ℕ → Bool) (k : ℕ) (r : CsaRecord) (rows : List Row) → RowsInv live rows
+    → Grows live rows (change (holds (entryOf r)) (replied k (r .number)) rows)
+grows-replied live k r rows v = grows-change live rows v (holds (entryOf r)) (replied k (r .number)) (λ i _. good-replied live k (r .number) (rowAt rows i))
+
+pub rows-replied : (live : ℕ → Bool) (k : ℕ) (r : CsaRecord) (rows : List Row) → RowsInv live rows
+    → RowsInv live (change (holds (entryOf r)) (replied k (r .number)) rows)
+rows-replied live k r rows v = grows-replied live k r rows v .inv
+
+pub grows-all-replied : (live : ℕ → Bool) (k : ℕ) (rs : List CsaRecord) (rows : List Row) → RowsInv live rows → Grows live rows (allReplied k rs rows)
+grows-all-replied live k [] rows v = grows-refl live rows v
+grows-all-replied live k (r ∷ rs) rows v =
+    let y : List Row = change (holds (entryOf r)) (replied k (r .number)) rows in
+    let g : Grows live rows y = grows-replied live k r rows v in
+    grows-trans rows y (allReplied k rs y) g (grows-all-replied live k rs y (g .inv))
+
+-- ---- changes of ours
+module _ (live : ℕ → Bool) (e : Entry) (rows : List Row) (v : RowsInv live rows) where
+  changed-to : (payload : List ℕ) → length payload ≤ payloadMost → Grows live rows (change (holds e) (changedRow live payload) rows)
+  changed-to payload z = grows-change live rows v (holds e) (changedRow live payload) (λ i _. good-changed live payload z (rowAt rows i) (v .sized i))
+
+  set-by : (payload : List ℕ) → length payload ≤ payloadMost → SizedEntry e → (b : Bool) → has (holds e) rows ≡ b
+      → Grows live rows (pick b (change (holds e) (changedRow live payload) rows) (filled (newRow live e payload) rows))
+  set-by payload z s true q = changed-to payload z
+  set-by payload z s false q =
+      grows-filled live rows v e _ live q (λ j h. h) (s, record { number-fits = record { sfits = omega arith }; payload-fits = z })
+
+  pub grows-set : (payload : List ℕ) → length payload ≤ payloadMost → SizedEntry e → Grows live rows (setRows live e payload rows)
+  grows-set payload z s = set-by payload z s (has (holds e) rows) refl
+
+  pub grows-withdraw : Grows live rows (withdrawRows live e rows)
+  grows-withdraw = changed-to [] (omega arith)
+
+  pub grows-purge : Grows live rows (purgeRows live e rows)
+  grows-purge = grows-change live rows v (holds e) (purgedRow live) (λ i _. good-purged live (rowAt rows i) (v .sized i))
+
+-- ---- the records that a packet was read to have
+module _ (k : Kind) (p : List ℕ) where
+  sized-at : (r : ℕ) → RecordTold idLength k p r → SizedRecord (recordAt idLength p r)
+  unfolding recordAt
+  sized-at r t =
+      let e = t .ends in
+      let g = t .covers in
+      let key : length (part p (r + recordSize) (octet p (r + 4))) ≡ octet p (r + 4) = part-length p (r + recordSize) (octet p (r + 4)) (omega arith) in
+      let pay : length (part p (r + summarySize idLength p r) (payloadSize idLength p r)) ≡ payloadSize idLength p r =
+      part-length p (r + summarySize idLength p r) (payloadSize idLength p r) (omega arith) in (
+        record {
+          some-key = rw key (t .some-key);
+          key-fits = rw key (t .key-fits);
+          originator = part-length p (r + recordSize + octet p (r + 4)) idLength (omega arith);
+        },
+        record { number-fits = toZ-any (field4 p (r + 8)); payload-fits = rw pay (t .payload-fits) },
+      )
+
+  all-sized : isHello k ≡ false → (n at : ℕ) → elementsCheck idLength k p n at ≡ Fine → All SizedRecord (recordsAt idLength p n at)
+  unfolding recordsAt
+  all-sized q zero at h = tt
+  all-sized q (suc n) at h =
+      let f = next-record idLength k p n at q h in
+      (sized-at at (f .0), all-sized q n (at + field2 p (at + 2)) (f .1))
+
+body-sized : (k : Kind) (p : List ℕ) (n at : ℕ) (rs : List CsaRecord) → elementsCheck idLength k p n at ≡ Fine → bodyAt idLength k p n at ≡ csuRequest rs → All SizedRecord rs
+body-sized Ca p n at rs h e = let z : _≡_ {A = ℕ} 0 1 = cc in absurd (omega arith)
+body-sized CsuRequest p n at rs h e = let q : recordsAt idLength p n at ≡ rs = cc in rw q at (all-sized CsuRequest p refl n at h)
+body-sized CsuReply p n at rs h e = let z : _≡_ {A = ℕ} 0 1 = cc in absurd (omega arith)
+body-sized Csus p n at rs h e = let z : _≡_ {A = ℕ} 0 1 = cc in absurd (omega arith)
+body-sized Hello p n at rs h e = let z : _≡_ {A = ℕ} 0 1 = cc in absurd (omega arith)
+
+pub read-sized : (p : List ℕ) (m : Message) (rs : List CsaRecord) → readPacket idLength p ≡ message m → m .body ≡ csuRequest rs → All SizedRecord rs
+unfolding messageAt
+read-sized p m rs e b =
+    let k : Kind = kindOf (octet p 1) in
+    let f = read-as idLength p m e in
+    body-sized k p (countAt k p) (elementsAt idLength k p) rs (told idLength k p (f .1) .elements) (ap (λ (x : Message). x .body) (f .2) ∙ b)
