@@ -1,11 +1,11 @@
 -- Laws of octets put into a list.
 -- Assumes nothing.
 use Prim.Native.Nat.{ℕ, _+_, _-_, _≤_, _<_}
-use mathlib.Core.Path.{_≡_, refl, sym, ap, _∙_}
+use mathlib.Core.Path.{_≡_, refl, sym, ap, _∙_, subst}
 use mathlib.Core.List.{List, [], append-nil, append-assoc, _++_}
 use native.Mathlib.Omega.{arith}
-use lib.ListN.{length, take, drop, drop-of-length-le, length-take, length-drop, length-append, take-append-drop}
-use lib.Seq.{take-all, take-at, drop-at, drop-drop, length-take-le}
+use lib.ListN.{length, take, drop, set, drop-of-length-le, length-take, length-drop, length-append, length-set, take-append-drop}
+use lib.Seq.{take-all, take-at, drop-at, drop-drop, length-take-le, set-append-left}
 use borrow.Rule.Slice.PartMut.{midOf, postOf, putMid, mid-len, post-is}
 use Rattle.laws.specs.Puts.{putAt, written, Put}
 
@@ -87,3 +87,32 @@ pub written-again : (p q out : List ℕ) → length p ≡ length q → written p
 unfolding written
 written-again p q out e =
     ap (λ (z : List ℕ). p ++ z) (drop-at q (drop (length q) out) (length p) (sym e) ∙ ap (λ (n : ℕ). drop n out) (sym e))
+
+-- three and four puts, each behind the one before
+module _ (out : List ℕ) (at : ℕ) (x y z : List ℕ) where
+  pub three-puts : {a b after : List ℕ} {i j n : ℕ} → at + (length x + length y) ≤ length out → Put x at out a i → Put y i a b j → Put z j b after n
+      → Put (x ++ (y ++ z)) at out after n
+  three-puts {after = after} {n = n} h p q r =
+      let two = then-put out at x y (omega arith) p q in
+      subst (λ (v : List ℕ). Put v at out after n) (append-assoc x y z)
+      (then-put out at (x ++ y) z (simp length-append (omega arith)) two r)
+
+  pub four-puts : (w : List ℕ) {a b c after : List ℕ} {i j k n : ℕ} → at + (length x + (length y + length z)) ≤ length out
+      → Put x at out a i → Put y i a b j → Put z j b c k → Put w k c after n → Put (x ++ (y ++ (z ++ w))) at out after n
+  four-puts w {after = after} {n = n} h p q r s =
+      let three = three-puts (omega arith) p q r in
+      subst (λ (v : List ℕ). Put v at out after n) (append-assoc x (y ++ z) w ∙ ap (λ (v : List ℕ). x ++ v) (append-assoc y z w))
+      (then-put out at (x ++ (y ++ z)) w (simp length-append (omega arith)) three s)
+
+-- two stores in the first n
+pub set-written : (out : List ℕ) (n i j x y : ℕ) → i < n → j < n → n ≤ length out → set (set out i x) j y ≡ written (set (set (take n out) i x) j y) out
+unfolding written
+set-written out n i j x y hi hj h =
+    let p : List ℕ = take n out in
+    let L : length p ≡ n = length-take-le n out h in
+    let M : length (set p i x) ≡ n = length-set p i x ∙ L in
+    let N : length (set (set p i x) j y) ≡ n = length-set (set p i x) j y ∙ M in
+    ap (λ (z : List ℕ). set (set z i x) j y) (sym (take-append-drop n out))
+    ∙ ap (λ (z : List ℕ). set z j y) (set-append-left p (drop n out) i x (omega arith))
+    ∙ set-append-left (set p i x) (drop n out) j y (omega arith)
+    ∙ ap (λ (k : ℕ). set (set p i x) j y ++ drop k out) (sym N)

@@ -1,0 +1,3 @@
+// SCSP packets written into a lent slice.
+mod put;
+pub mod write;
