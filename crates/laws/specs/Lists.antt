@@ -1,6 +1,6 @@
 -- Parts of a list, and what holds of each element.
 -- Assumes nothing.
-use Prim.Native.Nat.{ℕ}
+use Prim.Native.Nat.{ℕ, zero, suc}
 use mathlib.Core.Bool.{Bool, true, false}
 use mathlib.Core.List.{List, [], _∷_}
 use lib.ListN.{take, drop}
@@ -17,3 +17,8 @@ isEmpty (x ∷ xs) = false
 abbrev pub All : {A : Type 0} → (A → Type 0) → List A → Type 0
 All P [] = Unit {0}
 All P (x ∷ xs) = P x × All P xs
+
+-- f at n places from i on
+abbrev pub table : {A : Type 0} → (ℕ → A) → ℕ → ℕ → List A
+table f zero i = []
+table f (suc n) i = f i ∷ table f n (suc i)
