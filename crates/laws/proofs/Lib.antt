@@ -1,4 +1,5 @@
 pub mod Lists
 pub mod Tables
 pub mod Changes
+pub mod Each
 pub mod Puts

@@ -24,3 +24,13 @@ pub mod Cursor
 pub mod Stays
 pub mod Fair
 pub mod Main
+pub mod Stated
+pub mod StatedPacket
+pub mod RefusalKeeps
+pub mod Typed
+pub mod TypedRows
+pub mod TypedRecords
+pub mod TypedSlots
+pub mod TypedPeer
+pub mod TypedRun
+pub mod WrittenPacket
