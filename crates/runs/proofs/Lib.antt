@@ -1,1 +1,11 @@
 pub mod Runs01
+pub mod Runs02
+pub mod Runs03
+pub mod Runs04
+pub mod Runs05
+pub mod Runs06
+pub mod Runs07
+pub mod Runs08
+pub mod Runs09
+pub mod Runs10
+pub mod Runs11

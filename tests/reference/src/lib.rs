@@ -1,0 +1,19 @@
+//! A reference for the directory server of document 01, written from the
+//! papers alone: packets (`wire`), the state and its eight events (`state`
+//! and `server`, with the rules of 01 section by section in `hello`,
+//! `alignment`, `requests`, `updates` and `poll`), and the replay program
+//! (`replay`). `generate` makes random replay files.
+
+mod alignment;
+pub mod answer;
+pub mod generate;
+mod hello;
+mod poll;
+pub mod random;
+pub mod replay;
+mod requests;
+pub mod rule;
+pub mod server;
+mod state;
+mod updates;
+pub mod wire;
