@@ -2,9 +2,10 @@
 """Writes the recorded files of this folder as theorems: crates/runs/proofs.
 
 Each NAME.bin is a replay file, NAME.octets the lines of the reference for it, each with the octets written at that event
-in hexadecimal. A theorem says that the rules, evaluated on the file, give these lines and octets.
+in hexadecimal. A theorem says that the rules, evaluated on the file, give these lines and octets. `--check` writes nothing, and fails where a file is not what it should be.
 """
 import os
+import sys
 
 HERE = os.path.dirname(os.path.abspath(__file__))
 OUT = os.path.join(HERE, "..", "..", "crates", "runs", "proofs")
@@ -59,20 +60,33 @@ def theorem(name):
         title, " ".join(record(r) + " ∷" for r in records), " ".join(line(t) + " ∷" for t in lines), UNFOLD, title)
 
 
-def main():
+def modules():
+    """Each file of crates/runs/proofs and its text."""
     names = sorted(f[:-4] for f in os.listdir(HERE) if f.endswith(".bin"))
-    for f in os.listdir(OUT):
-        if f.startswith("Runs") or f == "Lib.antt":
-            os.remove(os.path.join(OUT, f))
-    modules = []
+    made = {}
     for i in range(0, len(names), EACH):
-        module = "Runs%02d" % (i // EACH + 1)
-        modules.append(module)
-        with open(os.path.join(OUT, module + ".antt"), "w", encoding="utf-8") as out:
-            out.write(HEAD + "".join(theorem(n) for n in names[i:i + EACH]))
-    with open(os.path.join(OUT, "Lib.antt"), "w", encoding="utf-8") as out:
-        out.write("".join("pub mod %s\n" % m for m in modules))
-    print(len(names), "files in", len(modules), "modules")
+        made["Runs%02d" % (i // EACH + 1)] = HEAD + "".join(theorem(n) for n in names[i:i + EACH])
+    made["Lib"] = "".join("pub mod %s\n" % m for m in sorted(made))
+    return made, len(names)
+
+
+def there():
+    return {f[:-5]: open(os.path.join(OUT, f), encoding="utf-8").read() for f in os.listdir(OUT) if f.endswith(".antt")}
+
+
+def main():
+    made, count = modules()
+    if sys.argv[1:] == ["--check"]:
+        # the layout of a file is the formatter's, so words are compared
+        if {m: t.split() for m, t in made.items()} != {m: t.split() for m, t in there().items()}:
+            sys.exit("crates/runs/proofs is not what tests/recorded says: run tests/recorded/theorems.py")
+        return
+    for m in there():
+        os.remove(os.path.join(OUT, m + ".antt"))
+    for m, text in made.items():
+        with open(os.path.join(OUT, m + ".antt"), "w", encoding="utf-8") as out:
+            out.write(text)
+    print(count, "files in", len(made) - 1, "modules")
 
 
 if __name__ == "__main__":

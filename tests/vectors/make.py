@@ -538,6 +538,10 @@ def main():
     folder = pathlib.Path(__file__).resolve().parents[2] / "crates" / "vectors"
     stdin = b"".join(bytes([kind]) + two(len(octets)) + octets for kind, _, octets, _ in vectors)
     stdout = "".join(line + "\n" for _, _, _, lines in vectors for line in lines)
+    if sys.argv[1:] == ["--check"]:
+        if (folder / "stdin").read_bytes() != stdin or (folder / "stdout").read_text() != stdout:
+            sys.exit("crates/vectors is not what tests/vectors/make.py says")
+        return
     (folder / "stdin").write_bytes(stdin)
     (folder / "stdout").write_text(stdout)
     print("%d vectors, %d octets of input, %d lines" % (len(vectors), len(stdin), stdout.count("\n")))

@@ -8,16 +8,13 @@ use lib.ListN as lists
 use lib.ListN.{getD, take, drop, replicate}
 use Rattle.laws.specs.Choice.{pick}
 use Rattle.laws.specs.Lists.{All}
+use Rattle.laws.proofs.Bools.{pick-of}
 use Rattle.laws.specs.Tables.{has, find, change, without}
 
 -- what holds of both choices, or of each in its case
 pub picked : {A : Type 0} (P : A → Type 0) (b : Bool) (x y : A) → (b ≡ true → P x) → (b ≡ false → P y) → P (pick b x y)
 picked P true x y f g = f refl
 picked P false x y f g = g refl
-
-pub chosen : {A : Type 0} (P : A → Type 0) (b : Bool) (x y : A) → P x → P y → P (pick b x y)
-chosen P true x y f g = f
-chosen P false x y f g = g
 
 module _ {A : Type 0} where
   pub all-at : (P : A → Type 0) (l : List A) (d : A) → P d → All P l → (i : ℕ) → P (getD l i d)
@@ -59,11 +56,11 @@ module _ {A : Type 0} where
   pub all-without : (P : A → Type 0) (p : A → Bool) (l : List A) → All P l → All P (without p l)
   all-without P p [] a = tt
   all-without P p (x ∷ l) a =
-      chosen (All P) (p x) (without p l) (x ∷ without p l) (all-without P p l (a .1)) (a .0, all-without P p l (a .1))
+      pick-of (All P) (p x) (without p l) (x ∷ without p l) (all-without P p l (a .1)) (a .0, all-without P p l (a .1))
 
   pub all-find : (P : A → Type 0) (p : A → Bool) (d : A) (l : List A) → P d → All P l → P (find p d l)
   all-find P p d [] h a = h
-  all-find P p d (x ∷ l) h a = chosen P (p x) x (find p d l) (a .0) (all-find P p d l h (a .1))
+  all-find P p d (x ∷ l) h a = pick-of P (p x) x (find p d l) (a .0) (all-find P p d l h (a .1))
 
   -- the first that passes is changed
   pub all-change : (P Q : A → Type 0) (p : A → Bool) (f : A → A) → ((x : A) → p x ≡ true → P x → Q (f x)) → ((x : A) → P x → Q x)

@@ -1,5 +1,8 @@
+pub mod Bools
+pub mod Integers
 pub mod Lists
+pub mod Perms
 pub mod Tables
-pub mod Changes
-pub mod Each
+pub mod Cells
 pub mod Puts
+pub mod Each

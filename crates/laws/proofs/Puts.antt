@@ -4,7 +4,7 @@ use Prim.Native.Nat.{ℕ, _+_, _-_, _≤_, _<_}
 use mathlib.Core.Path.{_≡_, refl, sym, ap, _∙_, subst}
 use mathlib.Core.List.{List, [], append-nil, append-assoc, _++_}
 use native.Mathlib.Omega.{arith}
-use lib.ListN.{length, take, drop, set, drop-of-length-le, length-take, length-drop, length-append, length-set, take-append-drop}
+use lib.ListN.{length, take, drop, set, drop-of-length-le, length-drop, length-append, length-set, take-append-drop}
 use lib.Seq.{take-all, take-at, drop-at, drop-drop, length-take-le, set-append-left}
 use borrow.Rule.Slice.PartMut.{midOf, postOf, putMid, mid-len, post-is}
 use Rattle.laws.specs.Puts.{putAt, written, Put}

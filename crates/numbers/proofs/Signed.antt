@@ -1,16 +1,16 @@
 -- A signed number's bits, by the test for its sign.
 -- Assumes nothing.
-use Prim.Native.Nat.{ℕ, zero, suc, _-_, _<_}
+use Prim.Native.Nat.{ℕ, suc, _-_, _<_}
 use mathlib.Core.Path.{_≡_, refl, sym, ap, _∙_, subst}
 use mathlib.Core.Bool.{Bool, true, false}
 use native.Mathlib.Omega.{arith}
-use lib.IntN.{ℤ, pos, negsuc, natAbs, sucℤ, _+ℤ_, +ℤ-sucℤ, +ℤ-idr}
+use lib.IntN.{ℤ, pos, negsuc, natAbs, _+ℤ_, +ℤ-one}
 use lib.Signed.{leZ, nonNeg}
 use lib.Dec.{T, leb·zero}
 use mir.Syntax.{w32}
 use mir.Val.{Fits, SFits, toZ, ofZ}
 use mir.ValLaws.{toZ-ofZ, toZ-pos}
-use borrow.Author.Tests.{leb-false}
+use Rattle.laws.proofs.Integers.{suc-fits}
 use Rattle.protocol.specs.declared.Step.the-variants.{Number, Spent}
 use Rattle.protocol.specs.Numbers.{csa, nextCsa}
 
@@ -48,19 +48,11 @@ pub turned : (z : ℤ) → SFits w32 z → leZ (pos 0) (toZ w32 (ofZ w32 z)) ≡
 turned z f t = turned′ z f (ap (leZ (pos 0)) (sym (toZ-ofZ w32 z f)) ∙ t)
 
 -- ---- the next number
-one-more : (z : ℤ) → z +ℤ pos 1 ≡ sucℤ z
-one-more z = +ℤ-sucℤ z (pos 0) ∙ ap sucℤ (+ℤ-idr z)
-
-next-fits′ : (z : ℤ) → SFits w32 z → leZ (pos 2147483646) z ≡ false → SFits w32 (sucℤ z)
-next-fits′ (pos n) f t = record { sfits = let h = leb-false 2147483646 n t in omega arith }
-next-fits′ (negsuc zero) f t = record { sfits = omega arith }
-next-fits′ (negsuc (suc n)) f t = record { sfits = let h : suc n < 2147483648 = f .sfits in omega arith }
-
 -- a number that is not spent has a next one of 32 bits
 pub next-fits : (z : ℤ) → SFits w32 z → leZ (pos 2147483646) (toZ w32 (ofZ w32 z)) ≡ false → SFits w32 (toZ w32 (ofZ w32 z) +ℤ pos 1)
 next-fits z f t =
     subst (λ (y : ℤ). SFits w32 (y +ℤ pos 1)) (sym (toZ-ofZ w32 z f))
-    (subst (λ (y : ℤ). SFits w32 y) (sym (one-more z)) (next-fits′ z f (ap (leZ (pos 2147483646)) (sym (toZ-ofZ w32 z f)) ∙ t)))
+    (subst (λ (y : ℤ). SFits w32 y) (sym (+ℤ-one z)) (suc-fits z f (ap (leZ (pos 2147483646)) (sym (toZ-ofZ w32 z f)) ∙ t)))
 
 pub next-spent : (z : ℤ) → SFits w32 z → leZ (pos 2147483646) (toZ w32 (ofZ w32 z)) ≡ true → Spent ≡ nextCsa (csa z)
 next-spent z f t = rw (ap (leZ (pos 2147483646)) (sym (toZ-ofZ w32 z f)) ∙ t)

@@ -2,24 +2,26 @@
 -- Assumes nothing.
 use Prim.Native.Nat.{ℕ, suc, _+_, _-_, _≤_, _<_}
 use mathlib.Core.Path.{_≡_, refl, sym, ap, _∙_}
-use mathlib.Core.Bool.{true, false, false≢true}
+use mathlib.Core.Bool.{true, false}
 use mathlib.Core.List.{List, [], _∷_, _++_}
 use native.Mathlib.Omega.{arith}
 use lib.ListN.{length, getD, drop, length-drop}
 use lib.Seq.{getD-drop}
 use borrow.Author.Tests.{eq-eqb}
 use Rattle.laws.specs.Lists.{All}
+use Rattle.laws.proofs.Lists.{octet-in, drop-in, room-in, part-in, behind, room-behind}
 use Rattle.protocol.specs.declared.Kind.{Kind}
-use Rattle.protocol.specs.declared.Kind.the-variants.{Ca, CsuRequest, CsuReply, Csus, Hello}
+use Rattle.protocol.specs.declared.Kind.the-variants.{Hello}
 use Rattle.protocol.specs.declared.Checked.the-variants.{Fine}
 use Rattle.protocol.specs.Fields.{octet, field2}
 use Rattle.protocol.specs.Messages.{CsaRecord}
 use Rattle.protocol.specs.Layouts.{recordsOctets, receiversOctets}
-use Rattle.protocol.specs.Checks.{firstBreak, isHello, recordChecks, elementCheck, elementSize, elementsCheck}
+use Rattle.protocol.specs.Checks.{isHello, elementCheck, elementSize, elementsCheck}
 use Rattle.protocol.specs.Reading.{recordsAt, receiversAt}
 use Rattle.protocol.specs.WellFormed.{Id, GoodRecord}
-use Rattle.protocol.proofs.Places.{octet-in, drop-in, room-in, part-in, behind, room-behind, done, _also_, all-fine, field-fine}
+use Rattle.protocol.proofs.Places.{done, _also_, all-fine, field-fine}
 use Rattle.protocol.proofs.RecordBack.{Shown, shown, record-read, record-fine}
+use Rattle.protocol.proofs.Told.{record-check, record-size}
 
 -- the 15 bits beside N, as the ignored fields of a layout hold them
 abbrev pub SmallBeside : List ℕ → Type 0
@@ -41,22 +43,7 @@ element-fine : (w : ℕ) (k : Kind) (p : List ℕ) (n at : ℕ) → elementCheck
 unfolding elementsCheck
 element-fine w k p n at h g = rw h g
 
--- ---- records: of every kind but a Hello
-record-check : (w : ℕ) (k : Kind) (p : List ℕ) (at : ℕ) → isHello k ≡ false → elementCheck w k p at ≡ firstBreak (recordChecks w k p at)
-unfolding elementCheck
-record-check w Ca p at h = refl
-record-check w CsuRequest p at h = refl
-record-check w CsuReply p at h = refl
-record-check w Csus p at h = refl
-record-check w Hello p at h = absurd (false≢true (sym h))
-
-record-size : (w : ℕ) (k : Kind) (p : List ℕ) (at : ℕ) → isHello k ≡ false → elementSize w k p at ≡ field2 p (at + 2)
-record-size w Ca p at h = refl
-record-size w CsuRequest p at h = refl
-record-size w CsuReply p at h = refl
-record-size w Csus p at h = refl
-record-size w Hello p at h = absurd (false≢true (sym h))
-
+-- ---- records
 pub record RecordsBack (w : ℕ) (k : Kind) (p : List ℕ) (at : ℕ) (rs : List CsaRecord) : Type 0 where
   pub fine : elementsCheck w k p (length rs) at ≡ Fine
   pub read : recordsAt w p (length rs) at ≡ rs
@@ -73,7 +60,7 @@ module _ (w : ℕ) (k : Kind) (p : List ℕ) (plain : isHello k ≡ false) where
       record {
         fine = element-fine w k p (length rs) at (record-check w k p at plain ∙ record-fine w k p at r _ s (good .0))
             (ap (λ (n : ℕ). elementsCheck w k p (length rs) (at + n)) (record-size w k p at plain) ∙ next .fine);
-        read = λ i. record-read w k p at r _ s (good .0) i ∷ next .read i;
+        read = λ i. record-read w p at r _ s (good .0 .number-fits) i ∷ next .read i;
       }
 
 -- ---- the receivers of a Hello

@@ -10,6 +10,8 @@ use lib.Dec.{eqb, leb}
 use borrow.Author.Tests.{leb-true, leb-false, eqb-true, eqb-false}
 use Rattle.laws.specs.Choice.{pick}
 use Rattle.laws.specs.Lists.{part}
+use Rattle.laws.proofs.Lists.{peel1, peel-part, part-length}
+use Rattle.laws.proofs.Bools.{and-true}
 use Rattle.protocol.specs.declared.Kind.{Kind}
 use Rattle.protocol.specs.declared.Kind.the-variants.{Ca, CsuRequest, CsuReply, Csus, Hello}
 use Rattle.protocol.specs.declared.Checked.the-variants.{Fine}
@@ -24,8 +26,8 @@ use Rattle.protocol.specs.Reading.{kindOf, recordsAt, receiversAt, messa
 use Rattle.protocol.specs.WellFormed.{Octets}
 use Rattle.protocol.specs.Unread.{ignoredOf}
 use Rattle.protocol.proofs.Codes.{FixedGood, read-as}
-use Rattle.protocol.proofs.Peel.{peel1, peel2, peel4, peel-part, part-length}
-use Rattle.protocol.proofs.Told.{both-true, HeadTold, Told, told}
+use Rattle.protocol.proofs.Peel.{peel2, peel4}
+use Rattle.protocol.proofs.Told.{HeadTold, Told, told}
 use Rattle.protocol.proofs.RecordExact.{records-exact, receivers-exact}
 
 -- ---- the common part
@@ -33,7 +35,7 @@ abbrev commonForm : ℕ → ℕ → ℕ → ℕ → ℕ → ℕ → ℕ → List
 commonForm protocol group unused flags a b count sender receiver rest =
     put2 protocol (put2 group (put2 unused (put2 flags (a ∷ b ∷ put2 count (sender ++ (receiver ++ rest))))))
 
-module _ (w : ℕ) (k : Kind) (p : List ℕ) (o : Octets p) (c : ℕ) (t : HeadTold w k p c) where
+module _ (w : ℕ) (k : Kind) (p : List ℕ) (c : ℕ) (t : HeadTold w k p c) where
   abbrev sender : List ℕ
   sender = part p (c + commonSize) w
 
@@ -46,10 +48,10 @@ module _ (w : ℕ) (k : Kind) (p : List ℕ) (o : Octets p) (c : ℕ) (t : HeadT
   pub receiver-length : length receiver ≡ octet p (c + 9)
   receiver-length = part-length p (c + commonSize + w) (octet p (c + 9)) (t .ends)
 
-  common-exact : (flags count : ℕ) (es : List ℕ) → field2 p (c + 6) ≡ flags → field2 p (c + 10) ≡ count
+  common-exact : Octets p → (flags count : ℕ) (es : List ℕ) → field2 p (c + 6) ≡ flags → field2 p (c + 10) ≡ count
       → drop (c + commonSize + w + octet p (c + 9)) p ≡ es
       → drop c p ≡ commonForm (field2 p c) (field2 p (c + 2)) (field2 p (c + 4)) flags (length sender) (length receiver) count sender receiver es
-  common-exact flags count es f n e =
+  common-exact o flags count es f n e =
       let g = t .ends in
       let a : octet p (c + 8) ≡ length sender = t .sender ∙ sym sender-length in
       let b : octet p (c + 9) ≡ length receiver = sym receiver-length in
@@ -103,19 +105,19 @@ unfolding mandatory ignoredOf messageAt
 mandatory-exact w Ca p o t =
     let e = t .common .ends in
     peel4 p o 8 12 refl (omega arith)
-    ∙ ap (put4 (field4 p 8)) (common-exact w Ca p o 12 (t .common) _ _ _
+    ∙ ap (put4 (field4 p 8)) (common-exact w Ca p 12 (t .common) o _ _ _
     (flag-bits (octet p 18) (octet p 19) (o 18) (o 19))
     (records-length w p (countAt Ca p) (elementsAt w Ca p))
     (records-exact w p o Ca refl (countAt Ca p) (elementsAt w Ca p) (t .elements)))
-mandatory-exact w CsuRequest p o t = common-exact w CsuRequest p o 8 (t .common) _ _ _
+mandatory-exact w CsuRequest p o t = common-exact w CsuRequest p 8 (t .common) o _ _ _
     (no-flags (field2 p 14))
     (records-length w p (countAt CsuRequest p) (elementsAt w CsuRequest p))
     (records-exact w p o CsuRequest refl (countAt CsuRequest p) (elementsAt w CsuRequest p) (t .elements))
-mandatory-exact w CsuReply p o t = common-exact w CsuReply p o 8 (t .common) _ _ _
+mandatory-exact w CsuReply p o t = common-exact w CsuReply p 8 (t .common) o _ _ _
     (no-flags (field2 p 14))
     (records-length w p (countAt CsuReply p) (elementsAt w CsuReply p))
     (records-exact w p o CsuReply refl (countAt CsuReply p) (elementsAt w CsuReply p) (t .elements))
-mandatory-exact w Csus p o t = common-exact w Csus p o 8 (t .common) _ _ _
+mandatory-exact w Csus p o t = common-exact w Csus p 8 (t .common) o _ _ _
     (no-flags (field2 p 14))
     (records-length w p (countAt Csus p) (elementsAt w Csus p))
     (records-exact w p o Csus refl (countAt Csus p) (elementsAt w Csus p) (t .elements))
@@ -125,7 +127,7 @@ mandatory-exact w Hello p o t =
     ∙ ap (put2 (field2 p 8)) (peel2 p o 10 12 refl (omega arith)
     ∙ ap (put2 (field2 p 10)) (peel2 p o 12 14 refl (omega arith)
     ∙ ap (put2 (field2 p 12)) (peel2 p o 14 16 refl (omega arith)
-    ∙ ap (put2 (field2 p 14)) (common-exact w Hello p o 16 (t .common) _ _ _
+    ∙ ap (put2 (field2 p 14)) (common-exact w Hello p 16 (t .common) o _ _ _
     (no-flags (field2 p 22))
     (receivers-length w p (countAt Hello p) (elementsAt w Hello p))
     (receivers-exact w p o (countAt Hello p) (elementsAt w Hello p) (t .elements))))))
@@ -143,15 +145,15 @@ type-of t false false false false ea eb ec ed l u =
 pub type-back : (p : List ℕ) → typeGood p ≡ true → octet p 1 ≡ typeOf (kindOf (octet p 1))
 type-back p h =
     let t : ℕ = octet p 1 in
-    let f = both-true (leb 1 t) (leb t 5) h in
+    let f = and-true (leb 1 t) (leb t 5) h in
     type-of t (eqb t 1) (eqb t 2) (eqb t 3) (eqb t 4) refl refl refl refl (leb-true 1 t (f .0)) (leb-true t 5 (f .1))
 
 -- the length is at least 8, and is the packet size
 pub length-told : (w : ℕ) (p : List ℕ) → lengthGood w p ≡ true → (8 ≤ length p) × (length p ≤ packetMost w) × (field2 p 2 ≡ length p)
 length-told w p h =
     let n : ℕ = length p in
-    let f = both-true (leb fixedSize n && leb n (packetMost w)) (eqb (field2 p 2) n) h in
-    let g = both-true (leb fixedSize n) (leb n (packetMost w)) (f .0) in
+    let f = and-true (leb fixedSize n && leb n (packetMost w)) (eqb (field2 p 2) n) h in
+    let g = and-true (leb fixedSize n) (leb n (packetMost w)) (f .0) in
     (leb-true fixedSize n (g .0), leb-true n (packetMost w) (g .1), eqb-true (field2 p 2) n (f .1))
 
 fixed-exact : (w : ℕ) (k : Kind) (p : List ℕ) → Octets p → FixedGood w p → octet p 1 ≡ typeOf k → (rest : List ℕ) → drop 8 p ≡ rest

@@ -2,7 +2,7 @@
 -- Assumes nothing.
 use Prim.Native.Nat.{ℕ, _+_, _*_, _/_, _%_, _≤_, _<_}
 use mathlib.Core.Path.{_≡_, refl, sym, ap, _∙_}
-use mathlib.Core.Bool.{true, false}
+use mathlib.Core.Bool.{true, false, or-true}
 use mathlib.Core.List.{List, _++_}
 use mathlib.Core.Logic.{inl, inr}
 use native.Mathlib.Omega.{arith}
@@ -10,6 +10,7 @@ use lib.ListN.{length, drop}
 use lib.Dec.{eqb}
 use borrow.Author.Tests.{eq-eqb, le-leb, lt-ltb}
 use Rattle.laws.specs.Lists.{part}
+use Rattle.laws.proofs.Lists.{octet-in, drop-in, room-in, part-in, behind, room-behind}
 use Rattle.protocol.specs.declared.Kind.{Kind}
 use Rattle.protocol.specs.declared.Kind.the-variants.{Ca, CsuRequest, CsuReply, Csus, Hello}
 use Rattle.protocol.specs.declared.CaFlags.{CaFlags}
@@ -22,7 +23,7 @@ use Rattle.protocol.specs.Layouts.{Ignored, bit, flagsOf, countOf, recor
 use Rattle.protocol.specs.Checks.{isHello, commonAt, beforeChecks, receiverLengthGood, countMost, commonChecks, elementsCheck}
 use Rattle.protocol.specs.Reading.{flagsAt, bodyAt}
 use Rattle.protocol.specs.WellFormed.{GoodRecords, GoodBody, GoodReceiver}
-use Rattle.protocol.proofs.Places.{octet-in, drop-in, room-in, two-in, four-in, bit-back, bit-le, part-in, behind, room-behind, or-true, Fines, done, _also_, field-fine}
+use Rattle.protocol.proofs.Places.{two-in, four-in, bit-back, bit-le, Fines, done, _also_, field-fine}
 use Rattle.protocol.proofs.ElementsBack.{SmallBeside, RecordsBack, records-back, receivers-back}
 
 -- ---- the common part, at c

@@ -1,13 +1,16 @@
 -- Octets from a position on, split behind a field: what is read there, put before the rest.
 -- Assumes nothing.
-use Prim.Native.Nat.{ℕ, zero, suc, _+_, _*_, _/_, _%_, _≤_, _<_}
+use Prim.Native.Nat.{ℕ, _+_, _*_, _/_, _%_, _≤_, _<_}
 use mathlib.Core.Path.{_≡_, refl, sym, ap, _∙_}
-use mathlib.Core.List.{List, [], _∷_, _++_}
+use mathlib.Core.List.{List, _∷_}
 use native.Mathlib.Omega.{arith}
-use native.Mathlib.Numerals.{add-one}
-use lib.ListN.{length, take, drop, take-append-drop, length-drop}
-use lib.Seq.{drop-cons, drop-drop, length-take-le, getD-drop}
+use lib.ListN.{length, drop}
+use lib.Seq.{getD-drop}
+use mir.Syntax.{w32}
+use mir.Val.{Fits}
 use Rattle.laws.specs.Lists.{part}
+use Rattle.laws.proofs.Cells.{each-take}
+use Rattle.laws.proofs.Lists.{peel1}
 use Rattle.protocol.specs.Fields.{octet, field2, field4, put2, put4}
 use Rattle.protocol.specs.WellFormed.{Octets}
 
@@ -28,23 +31,6 @@ put4-of a b c d rest hb hc hd =
     let t : n % 256 ≡ d = omega arith in
     λ i. x i ∷ y i ∷ z i ∷ t i ∷ rest
 
--- ---- one octet, and some
-pub peel1 : (p : List ℕ) (at next : ℕ) → next ≡ at + 1 → next ≤ length p → drop at p ≡ octet p at ∷ drop next p
-peel1 p at next e h = drop-cons p at 0 (omega arith) ∙ ap (λ (n : ℕ). octet p at ∷ drop n p) (sym (add-one at) ∙ sym e)
-
-pub peel-part : (p : List ℕ) (at n next : ℕ) → next ≡ at + n → drop at p ≡ part p at n ++ drop next p
-peel-part p at n next e =
-    sym (take-append-drop n (drop at p)) ∙ ap (λ (l : List ℕ). part p at n ++ l) (drop-drop n at p ∙ ap (λ (j : ℕ). drop j p) (sym e))
-
-pub part-length : (p : List ℕ) (at n : ℕ) → at + n ≤ length p → length (part p at n) ≡ n
-part-length p at n h = length-take-le n (drop at p) (simp length-drop (omega arith))
-
-take-octets : (n : ℕ) (l : List ℕ) → Octets l → Octets (take n l)
-take-octets zero l o i = omega arith
-take-octets (suc n) [] o i = omega arith
-take-octets (suc n) (x ∷ xs) o zero = o zero
-take-octets (suc n) (x ∷ xs) o (suc i) = take-octets n xs (λ j. o (suc j)) i
-
 -- ---- fields
 module _ (p : List ℕ) (o : Octets p) where
   pub field2-fits : (at : ℕ) → field2 p at < 65536
@@ -52,6 +38,9 @@ module _ (p : List ℕ) (o : Octets p) where
 
   pub field4-fits : (at : ℕ) → field4 p at < 4294967296
   field4-fits at = let a = o at in let b = o (at + 1) in let c = o (at + 2) in let d = o (at + 3) in omega arith
+
+  pub bits-fit : (at : ℕ) → Fits w32 (field4 p at)
+  bits-fit at = record { fits = field4-fits at }
 
   pub peel2 : (at next : ℕ) → next ≡ at + 2 → next ≤ length p → drop at p ≡ put2 (field2 p at) (drop next p)
   peel2 at next e h =
@@ -70,4 +59,4 @@ module _ (p : List ℕ) (o : Octets p) where
 
   -- the octets of a part are octets
   pub part-octets : (at n : ℕ) → Octets (part p at n)
-  part-octets at n = take-octets n (drop at p) (λ i. rw (getD-drop at p i 0) (o (at + i)))
+  part-octets at n = each-take (λ (x : ℕ). x < 256) 0 (omega arith) n (drop at p) (λ i. rw (getD-drop at p i 0) (o (at + i)))

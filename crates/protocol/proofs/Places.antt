@@ -1,33 +1,21 @@
--- What stands at a position of a packet whose octets from an earlier position on are known.
+-- Fields at a position of a packet whose octets from an earlier position on are known, and checks that are fine.
 -- Assumes nothing.
-use Prim.Native.Nat.{ℕ, _+_, _*_, _-_, _/_, _%_, _≤_, _<_}
-use mathlib.Core.Path.{_≡_, refl, sym, ap, _∙_}
-use mathlib.Core.Bool.{Bool, true, false, _&&_, _||_}
+use Prim.Native.Nat.{ℕ, _+_, _*_, _/_, _%_, _≤_, _<_}
+use mathlib.Core.Path.{_≡_, refl}
+use mathlib.Core.Bool.{Bool, true, false}
 use mathlib.Core.List.{List, [], _∷_, _++_}
 use native.Mathlib.Omega.{arith}
-use lib.ListN.{length, getD, take, drop, length-drop, length-append}
-use lib.Seq.{getD-drop, drop-drop, take-append-seam, drop-append-seam}
+use lib.ListN.{length, getD, drop}
 use lib.Dec.{leb}
 use borrow.Author.Tests.{le-leb, lt-leb}
-use Rattle.laws.specs.Lists.{part}
+use Rattle.laws.proofs.Lists.{octet-in}
 use Rattle.protocol.specs.declared.Checked.{Checked}
 use Rattle.protocol.specs.declared.Checked.the-variants.{Fine}
-use Rattle.protocol.specs.Fields.{octet, field2, field4}
+use Rattle.protocol.specs.Fields.{field2, field4}
 use Rattle.protocol.specs.Layouts.{bit}
 use Rattle.protocol.specs.Checks.{field, firstBreak}
 
--- a position `a` behind `at`, from where the octets are l
-module _ (p : List ℕ) (at : ℕ) (l : List ℕ) (e : drop at p ≡ l) (a k : ℕ) (here : a ≡ at + k) where
-  pub octet-in : octet p a ≡ getD l k 0
-  octet-in = ap (octet p) here ∙ sym (getD-drop at p k 0) ∙ ap (λ (z : List ℕ). getD z k 0) e
-
-  pub drop-in : drop a p ≡ drop k l
-  drop-in = ap (λ (n : ℕ). drop n p) here ∙ sym (drop-drop k at p) ∙ ap (drop k) e
-
-  pub room-in : k ≤ length l → at ≤ length p → a ≤ length p
-  room-in h g = let n : length p - at ≡ length l = sym (length-drop at p) ∙ ap length e in omega arith
-
--- a field there, x, of two octets and of four
+-- a field, x, of two octets or of four, at a position `a` behind `at`, from where the octets are l
 module _ (p : List ℕ) (at : ℕ) (l : List ℕ) (e : drop at p ≡ l) (a k : ℕ) (here : a ≡ at + k) (x : ℕ) where
   pub two-in : getD l k 0 ≡ x / 256 → getD l (k + 1) 0 ≡ x % 256 → field2 p a ≡ x
   two-in h g =
@@ -53,25 +41,7 @@ pub bit-le : (b : Bool) → bit b ≤ 1
 bit-le true = omega arith
 bit-le false = omega arith
 
--- the list v at a position, and what is behind it
-module _ (p : List ℕ) (at : ℕ) (v rest : List ℕ) (e : drop at p ≡ v ++ rest) where
-  pub part-in : (a n : ℕ) → a ≡ at → n ≡ length v → part p a n ≡ v
-  part-in a n h g = (λ i. take (g i) (drop (h i) p)) ∙ ap (take (length v)) e ∙ take-append-seam v rest
-
-  pub behind : (a : ℕ) → a ≡ at + length v → drop a p ≡ rest
-  behind a h = drop-in p at (v ++ rest) e a (length v) h ∙ drop-append-seam v rest
-
-  pub room-behind : at ≤ length p → at + length v ≤ length p
-  room-behind h = room-in p at (v ++ rest) e (at + length v) (length v) refl (simp length-append (omega arith)) h
-
 -- ---- checks that are fine
-pub both-true : {a b : Bool} → a ≡ true → b ≡ true → (a && b) ≡ true
-both-true {a} {b} p q = rw (p, q)
-
-pub or-true : (b : Bool) → (b || true) ≡ true
-or-true true = refl
-or-true false = refl
-
 -- every check of a list is fine
 infixr 20 _also_
 pub data Fines : List Checked → Type 0 where

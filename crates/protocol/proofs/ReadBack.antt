@@ -8,6 +8,8 @@ use native.Mathlib.Omega.{arith}
 use lib.ListN.{length, drop}
 use lib.Dec.{leb}
 use borrow.Author.Tests.{eq-eqb, le-leb}
+use Rattle.laws.proofs.Lists.{behind, room-behind}
+use Rattle.laws.proofs.Bools.{both-true}
 use Rattle.protocol.specs.declared.Kind.{Kind}
 use Rattle.protocol.specs.declared.Kind.the-variants.{Ca, CsuRequest, CsuReply, Csus, Hello}
 use Rattle.protocol.specs.declared.Checked.the-variants.{Fine}
@@ -20,7 +22,7 @@ use Rattle.protocol.specs.Checks.{commonAt, headCheck, elementsCheck, el
 use Rattle.protocol.specs.Answers.{refuse, firstCode, lengthGood, versionGood, typeGood, noExtensions, fixedCode}
 use Rattle.protocol.specs.Reading.{kindOf, bodyAt, messageAt, readPacket, message, byCode, byCheck}
 use Rattle.protocol.specs.WellFormed.{WellFormed}
-use Rattle.protocol.proofs.Places.{behind, room-behind, both-true, all-fine, fines-append}
+use Rattle.protocol.proofs.Places.{all-fine, fines-append}
 use Rattle.protocol.proofs.ElementsBack.{SmallBeside}
 use Rattle.protocol.proofs.HeadBack.{Common, common, common-fines, receiver-good, flagsRoom, BodyBack, body-back}
 use Rattle.protocol.proofs.Lengths.{layout-size, layout-length}

@@ -8,33 +8,31 @@ use mathlib.Core.Logic.{_⊎_, inl, inr, ⊎-elim}
 use native.Mathlib.Omega.{arith}
 use lib.ListN.{length}
 use mir.Syntax.{w32}
-use mir.Val.{Fits}
-use mir.ValLaws.{ofZ-toZ, toZ-fits}
+use mir.ValLaws.{ofZ-toZ}
 use Rattle.laws.specs.Lists.{part, All}
+use Rattle.laws.proofs.Lists.{part-length}
+use Rattle.laws.proofs.Integers.{toZ-any}
 use Rattle.protocol.specs.declared.CsaNumber.{CsaNumber}
 use Rattle.protocol.specs.declared.Kind.{Kind}
 use Rattle.protocol.specs.declared.Kind.the-variants.{Ca, CsuRequest, CsuReply, Csus, Hello}
 use Rattle.protocol.specs.declared.Checked.the-variants.{Fine}
 use Rattle.protocol.specs.Sizes.{recordSize, commonSize, recordsMost}
-use Rattle.protocol.specs.Fields.{octet, field2, field4}
+use Rattle.protocol.specs.Fields.{octet, field4}
 use Rattle.protocol.specs.Numbers as numbers
 use Rattle.protocol.specs.Messages.{Message}
 use Rattle.protocol.specs.Checks.{isHello, summarySize, payloadSize, countAt, elementsAt, elementsCheck}
 use Rattle.protocol.specs.Reading.{kindOf, recordAt, recordsAt, receiversAt, messageAt, message, readPacket}
 use Rattle.protocol.specs.WellFormed.{Octets, Id, GoodRecord, GoodRecords, WellFormed}
 use Rattle.protocol.proofs.Codes.{read-as}
-use Rattle.protocol.proofs.Peel.{field2-fits, field4-fits, part-octets, part-length}
-use Rattle.protocol.proofs.Told.{RecordTold, next-record, next-receiver, HeadTold, Told, told}
-use Rattle.protocol.proofs.RecordExact.{fits32, key-length, originator-length, payload-length}
+use Rattle.protocol.proofs.Peel.{field2-fits, field4-fits, part-octets, bits-fit}
+use Rattle.protocol.proofs.Told.{RecordTold, next-receiver, HeadTold, Told, told, each-record}
+use Rattle.protocol.proofs.RecordExact.{key-length, originator-length, payload-length}
 use Rattle.protocol.proofs.Exact.{sender-length, receiver-length, records-length, receivers-length}
 
 -- ---- a record
 module _ (w : ℕ) (k : Kind) (p : List ℕ) (o : Octets p) (r : ℕ) (t : RecordTold w k p r) where
-  bits-fit : Fits w32 (field4 p (r + 8))
-  bits-fit = fits32 (field4 p (r + 8)) (field4-fits p o (r + 8))
-
   bits-are : (n : CsaNumber) → numbers.csaOf (field4 p (r + 8)) ≡ n → field4 p (r + 8) ≡ numbers.bitsOf n
-  bits-are n e = sym (ofZ-toZ w32 (field4 p (r + 8)) bits-fit) ∙ ap numbers.bitsOf e
+  bits-are n e = sym (ofZ-toZ w32 (field4 p (r + 8)) (bits-fit p o (r + 8))) ∙ ap numbers.bitsOf e
 
   empty : payloadSize w p r ≡ 0 → part p (r + summarySize w p r) (payloadSize w p r) ≡ []
   empty e = ap (part p (r + summarySize w p r)) e
@@ -42,16 +40,16 @@ module _ (w : ℕ) (k : Kind) (p : List ℕ) (o : Octets p) (r : ℕ) (t : Recor
   good-record : GoodRecord w k (recordAt w p r)
   unfolding recordAt
   good-record =
-      let key : length (part p (r + recordSize) (octet p (r + 4))) ≡ octet p (r + 4) = key-length w k p o r t in
-      let pay : length (part p (r + summarySize w p r) (payloadSize w p r)) ≡ payloadSize w p r = payload-length w k p o r t in
+      let key : length (part p (r + recordSize) (octet p (r + 4))) ≡ octet p (r + 4) = key-length w k p r t in
+      let pay : length (part p (r + summarySize w p r) (payloadSize w p r)) ≡ payloadSize w p r = payload-length w k p r t in
       record {
         some-hops = t .hops;
         hops-fit = field2-fits p o r;
         some-key = rw key (t .some-key);
         key-fits = rw key (t .key-fits);
         key-octets = part-octets p o (r + recordSize) (octet p (r + 4));
-        originator = record { size = originator-length w k p o r t; octets = part-octets p o (r + recordSize + octet p (r + 4)) w };
-        number-fits = toZ-fits w32 (field4 p (r + 8)) bits-fit;
+        originator = record { size = originator-length w k p r t; octets = part-octets p o (r + recordSize + octet p (r + 4)) w };
+        number-fits = toZ-any (field4 p (r + 8));
         not-reserved = λ e. t .number (bits-are numbers.reserved e);
         payload-fits = rw pay (t .payload-fits);
         payload-octets = part-octets p o (r + summarySize w p r) (payloadSize w p r);
@@ -63,16 +61,9 @@ module _ (w : ℕ) (k : Kind) (p : List ℕ) (o : Octets p) (r : ℕ) (t : Recor
 
 -- ---- records and receivers
 module _ (w : ℕ) (p : List ℕ) (o : Octets p) where
-  each-record : (k : Kind) → isHello k ≡ false → (n at : ℕ) → elementsCheck w k p n at ≡ Fine → All (GoodRecord w k) (recordsAt w p n at)
-  unfolding recordsAt
-  each-record k e zero at h = tt
-  each-record k e (suc n) at h =
-      let f = next-record w k p n at e h in
-      (good-record w k p o at (f .0), each-record k e n (at + field2 p (at + 2)) (f .1))
-
   good-records : (k : Kind) → isHello k ≡ false → (n at : ℕ) → n ≤ recordsMost → elementsCheck w k p n at ≡ Fine
       → GoodRecords w k (recordsAt w p n at)
-  good-records k e n at l h = record { few = rw (← (records-length w p n at)) l; each = each-record k e n at h }
+  good-records k e n at l h = record { few = rw (← (records-length w p n at)) l; each = each-record w k p (GoodRecord w k) (good-record w k p o) e n at h }
 
   each-receiver : (n at : ℕ) → elementsCheck w Hello p n at ≡ Fine → All (Id w) (receiversAt w p n at)
   unfolding receiversAt
@@ -83,12 +74,12 @@ module _ (w : ℕ) (p : List ℕ) (o : Octets p) where
 
   -- ---- the head
   id-sender : (k : Kind) (c : ℕ) → HeadTold w k p c → Id w (part p (c + commonSize) w)
-  id-sender k c t = record { size = sender-length w k p o c t; octets = part-octets p o (c + commonSize) w }
+  id-sender k c t = record { size = sender-length w k p c t; octets = part-octets p o (c + commonSize) w }
 
   good-receiver : (k : Kind) (c : ℕ) → HeadTold w k p c
       → Id w (part p (c + commonSize + w) (octet p (c + 9))) ⊎ ((isHello k ≡ true) × (part p (c + commonSize + w) (octet p (c + 9)) ≡ []))
   good-receiver k c t = ⊎-elim
-      (λ e. inl record { size = receiver-length w k p o c t ∙ e; octets = part-octets p o (c + commonSize + w) (octet p (c + 9)) })
+      (λ e. inl record { size = receiver-length w k p c t ∙ e; octets = part-octets p o (c + commonSize + w) (octet p (c + 9)) })
       (λ e. inr (e .0, ap (part p (c + commonSize + w)) (e .1)))
       (t .receiver)
 

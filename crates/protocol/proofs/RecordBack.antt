@@ -2,7 +2,7 @@
 -- Assumes nothing.
 use Prim.Native.Nat.{ℕ, zero, suc, _+_, _*_, _/_, _≤_, _<_}
 use mathlib.Core.Path.{_≡_, refl, sym, ap, _∙_}
-use mathlib.Core.Bool.{Bool, true, false, not, _&&_, _||_}
+use mathlib.Core.Bool.{Bool, true, false, not, _&&_, _||_, or-true}
 use mathlib.Core.List.{List, [], _++_, append-assoc}
 use native.Mathlib.Omega.{arith}
 use lib.ListN.{length, drop}
@@ -12,6 +12,7 @@ use mir.Val.{SFits}
 use mir.ValLaws.{toZ-ofZ}
 use borrow.Author.Tests.{lt-ltb, le-leb, eq-eqb, ne-eqb}
 use Rattle.laws.specs.Lists.{part}
+use Rattle.laws.proofs.Lists.{octet-in, drop-in, room-in, part-in, behind, room-behind}
 use Rattle.protocol.specs.declared.Kind.{Kind}
 use Rattle.protocol.specs.declared.CsaNumber.{CsaNumber}
 use Rattle.protocol.specs.declared.Checked.the-variants.{Fine}
@@ -23,7 +24,7 @@ use Rattle.protocol.specs.Layouts.{bit, recordHead, recordOctets}
 use Rattle.protocol.specs.Checks.{isRequest, nullAt, summarySize, payloadSize, reservedBits, purgedBits, payloadGood, recordChecks, firstBreak}
 use Rattle.protocol.specs.Reading.{recordAt}
 use Rattle.protocol.specs.WellFormed.{GoodRecord}
-use Rattle.protocol.proofs.Places.{octet-in, drop-in, room-in, two-in, four-in, bit-back, part-in, behind, room-behind, or-true, done, _also_, all-fine, field-fine}
+use Rattle.protocol.proofs.Places.{two-in, four-in, bit-back, done, _also_, all-fine, field-fine}
 
 -- ---- CSA numbers
 number-back : (n : CsaNumber) → SFits w32 (n .0) → csaOf (bitsOf n) ≡ n
@@ -105,19 +106,19 @@ module _ (w : ℕ) (p : List ℕ) (at beside : ℕ) (r : CsaRecord) (rest : List
         rest-at = behind p c (r .payload) rest from-payload (at + field2 p (at + 2)) (omega arith);
       }
 
--- ---- so it is fine, and read back
-module _ (w : ℕ) (k : Kind) (p : List ℕ) (at : ℕ) (r : CsaRecord) (rest : List ℕ) (s : Shown w p at r rest) (good : GoodRecord w k r) where
-  pub record-read : recordAt w p at ≡ r
-  unfolding recordAt
-  record-read = λ i. record {
-    hops = s .hops-at i;
-    null = s .null-at i;
-    number = (ap csaOf (s .bits-at) ∙ number-back (r .number) (good .number-fits)) i;
-    key = s .key-at i;
-    originator = s .originator-at i;
-    payload = s .payload-at i;
-  }
+-- ---- so it is read back, and is fine
+pub record-read : (w : ℕ) (p : List ℕ) (at : ℕ) (r : CsaRecord) (rest : List ℕ) → Shown w p at r rest → SFits w32 (r .number .0) → recordAt w p at ≡ r
+unfolding recordAt
+record-read w p at r rest s fits = λ i. record {
+  hops = s .hops-at i;
+  null = s .null-at i;
+  number = (ap csaOf (s .bits-at) ∙ number-back (r .number) fits) i;
+  key = s .key-at i;
+  originator = s .originator-at i;
+  payload = s .payload-at i;
+}
 
+module _ (w : ℕ) (k : Kind) (p : List ℕ) (at : ℕ) (r : CsaRecord) (rest : List ℕ) (s : Shown w p at r rest) (good : GoodRecord w k r) where
   -- of a record with no payload none is read
   empty : r .payload ≡ [] → payloadSize w p at ≡ 0
   empty e = let len = good .originator .size in let none : length (r .payload) ≡ 0 = ap length e in omega arith

@@ -10,6 +10,7 @@ use lib.ListN.{length}
 use lib.Dec.{eqb, leb, ltb}
 use borrow.Author.Tests.{ltb-true, leb-true, eqb-true, eqb-false, not-true, eq-eqb}
 use Rattle.laws.specs.Lists.{All}
+use Rattle.laws.proofs.Bools.{and-true, one-true}
 use Rattle.protocol.specs.declared.Kind.{Kind}
 use Rattle.protocol.specs.declared.Kind.the-variants.{Ca, CsuRequest, CsuReply, Csus, Hello}
 use Rattle.protocol.specs.declared.Checked.{Checked}
@@ -17,16 +18,10 @@ use Rattle.protocol.specs.declared.Checked.the-variants.{Fine, Breaks}
 use Rattle.protocol.specs.Sizes.{keyMost, payloadMost}
 use Rattle.protocol.specs.Fields.{octet, field2, field4}
 use Rattle.protocol.specs.Checks.{rule, field, andThen, firstBreak, isRequest, isHello, commonAt, beforeChecks, receiverLengthGood, countMost, commonChecks, headCheck, nullAt, summarySize, payloadSize, keyLengthGood, reservedBits, purgedBits, payloadGood, recordChecks, receiverChecks, elementCheck, elementSize, elementsCheck, countAt, elementsAt, afterHead, mandatoryCheck}
+use Rattle.protocol.specs.Messages.{CsaRecord}
+use Rattle.protocol.specs.Reading.{recordAt, recordsAt}
 
--- ---- tests and checks
-pub both-true : (a b : Bool) → (a && b) ≡ true → (a ≡ true) × (b ≡ true)
-both-true true b h = (refl, h)
-both-true false b h = ((cc), (cc))
-
-pub one-true : (a b : Bool) → (a || b) ≡ true → (a ≡ true) ⊎ (b ≡ true)
-one-true true b h = inl refl
-one-true false b h = inr h
-
+-- ---- checks
 pub both-fine : (c d : Checked) → andThen c d ≡ Fine → (c ≡ Fine) × (d ≡ Fine)
 both-fine Fine d h = (refl, h)
 both-fine (Breaks at) d h = ((cc), (cc))
@@ -48,7 +43,7 @@ split-fine (c ∷ cs) ds h =
 
 module _ (p : List ℕ) (at n : ℕ) (good : Bool) (h : field p at n good ≡ Fine) where
   tests : (leb (at + n) (length p) ≡ true) × (good ≡ true)
-  tests = both-true (leb (at + n) (length p)) good (rule-true (leb (at + n) (length p) && good) at h)
+  tests = and-true (leb (at + n) (length p)) good (rule-true (leb (at + n) (length p) && good) at h)
 
   inside : at + n ≤ length p
   inside = leb-true (at + n) (length p) (tests .0)
@@ -74,11 +69,11 @@ pub record RecordTold (w : ℕ) (k : Kind) (p : List ℕ) (r : ℕ) : Type 0 whe
 key-told : (q : Bool) (key size len : ℕ) → ((ltb 0 key && leb key keyMost) && (eqb len size || (q && leb size len))) ≡ true
     → (0 < key) × (key ≤ keyMost) × (size ≤ len) × (q ≡ false → len ≡ size)
 key-told q key size len h =
-    let a = both-true (ltb 0 key && leb key keyMost) (eqb len size || (q && leb size len)) h in
-    let b = both-true (ltb 0 key) (leb key keyMost) (a .0) in
+    let a = and-true (ltb 0 key && leb key keyMost) (eqb len size || (q && leb size len)) h in
+    let b = and-true (ltb 0 key) (leb key keyMost) (a .0) in
     let c : (size ≤ len) × (q ≡ false → len ≡ size) = ⊎-elim
     (λ e. let f : len ≡ size = eqb-true len size e in (omega arith, λ n. f))
-    (λ e. let f = both-true q (leb size len) e in (leb-true size len (f .1), λ n. cc (f .0)))
+    (λ e. let f = and-true q (leb size len) e in (leb-true size len (f .1), λ n. cc (f .0)))
     (one-true (eqb len size) (q && leb size len) (a .1)) in
     (ltb-true 0 key (b .0), leb-true key keyMost (b .1), c .0, c .1)
 
@@ -89,10 +84,10 @@ plain-told false null h e = not-true null h
 payload-told : (null : Bool) (bits n : ℕ) → payloadGood null bits n ≡ true
     → (n ≤ payloadMost) × (null ≡ true → n ≡ 0) × (bits ≡ purgedBits → n ≡ 0)
 payload-told null bits n h =
-    let a = both-true (leb n payloadMost) (eqb n 0 || (not null && not (eqb bits purgedBits))) h in
+    let a = and-true (leb n payloadMost) (eqb n 0 || (not null && not (eqb bits purgedBits))) h in
     let c : (null ≡ true → n ≡ 0) × (bits ≡ purgedBits → n ≡ 0) = ⊎-elim
     (λ e. let f : n ≡ 0 = eqb-true n 0 e in ((λ t. f), (λ t. f)))
-    (λ e. let f = both-true (not null) (not (eqb bits purgedBits)) e in
+    (λ e. let f = and-true (not null) (not (eqb bits purgedBits)) e in
     ((λ t. cc (not-true null (f .0))), (λ t. cc (not-true (eqb bits purgedBits) (f .1), eq-eqb bits purgedBits t))))
     (one-true (eqb n 0) (not null && not (eqb bits purgedBits)) (a .1)) in
     (leb-true n payloadMost (a .0), c .0, c .1)
@@ -140,14 +135,35 @@ unfolding elementsCheck
 next-told w k p n at h = both-fine (elementCheck w k p at) (elementsCheck w k p n (at + elementSize w k p at)) h
 
 -- in all kinds but Hello they are records
+pub record-check : (w : ℕ) (k : Kind) (p : List ℕ) (at : ℕ) → isHello k ≡ false → elementCheck w k p at ≡ firstBreak (recordChecks w k p at)
+unfolding elementCheck
+record-check w Ca p at h = refl
+record-check w CsuRequest p at h = refl
+record-check w CsuReply p at h = refl
+record-check w Csus p at h = refl
+record-check w Hello p at h = absurd (true≢false h)
+
+pub record-size : (w : ℕ) (k : Kind) (p : List ℕ) (at : ℕ) → isHello k ≡ false → elementSize w k p at ≡ field2 p (at + 2)
+record-size w Ca p at h = refl
+record-size w CsuRequest p at h = refl
+record-size w CsuReply p at h = refl
+record-size w Csus p at h = refl
+record-size w Hello p at h = absurd (true≢false h)
+
 pub next-record : (w : ℕ) (k : Kind) (p : List ℕ) (n at : ℕ) → isHello k ≡ false → elementsCheck w k p (suc n) at ≡ Fine
     → RecordTold w k p at × (elementsCheck w k p n (at + field2 p (at + 2)) ≡ Fine)
-unfolding elementCheck
-next-record w Ca p n at e h = let f = next-told w Ca p n at h in (record-told w Ca p at (f .0), f .1)
-next-record w CsuRequest p n at e h = let f = next-told w CsuRequest p n at h in (record-told w CsuRequest p at (f .0), f .1)
-next-record w CsuReply p n at e h = let f = next-told w CsuReply p n at h in (record-told w CsuReply p at (f .0), f .1)
-next-record w Csus p n at e h = let f = next-told w Csus p n at h in (record-told w Csus p at (f .0), f .1)
-next-record w Hello p n at e h = absurd (true≢false e)
+next-record w k p n at e h =
+    let f = next-told w k p n at h in
+    (record-told w k p at (rw (record-check w k p at e) at (f .0)), rw (record-size w k p at e) at (f .1))
+
+-- so what holds of each that is fine holds of all that are read
+pub each-record : (w : ℕ) (k : Kind) (p : List ℕ) (P : CsaRecord → Type 0) → ((r : ℕ) → RecordTold w k p r → P (recordAt w p r)) → isHello k ≡ false
+    → (n at : ℕ) → elementsCheck w k p n at ≡ Fine → All P (recordsAt w p n at)
+unfolding recordsAt
+each-record w k p P g e zero at h = tt
+each-record w k p P g e (suc n) at h =
+    let f = next-record w k p n at e h in
+    (g at (f .0), each-record w k p P g e n (at + field2 p (at + 2)) (f .1))
 
 pub next-receiver : (w : ℕ) (p : List ℕ) (n at : ℕ) → elementsCheck w Hello p (suc n) at ≡ Fine
     → ((octet p at ≡ w) × ((at + 1) + w ≤ length p)) × (elementsCheck w Hello p n (at + (1 + w)) ≡ Fine)
@@ -169,7 +185,7 @@ common-told w k p c h =
       sender = eqb-true (octet p (c + 8)) w (obeyed p (c + 8) 1 (eqb (octet p (c + 8)) w) (f .1 .1 .1 .1 .0));
       receiver = ⊎-elim
           (λ e. inl (eqb-true n w e))
-          (λ e. let g = both-true (isHello k) (eqb n 0) e in inr (g .0, eqb-true n 0 (g .1)))
+          (λ e. let g = and-true (isHello k) (eqb n 0) e in inr (g .0, eqb-true n 0 (g .1)))
           (one-true (eqb n w) (isHello k && eqb n 0) (obeyed p (c + 9) 1 (receiverLengthGood w k n) (f .1 .1 .1 .1 .1 .0)));
       few = leb-true (field2 p (c + 10)) (countMost k)
           (obeyed p (c + 10) 2 (leb (field2 p (c + 10)) (countMost k)) (f .1 .1 .1 .1 .1 .1 .0));

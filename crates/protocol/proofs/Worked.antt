@@ -11,7 +11,7 @@ use Rattle.protocol.specs.Layouts.{layout, packetOf, mandatory, recordOc
 use Rattle.protocol.specs.Checksum.{total}
 use Rattle.protocol.specs.Checks.{headCheck, elementCheck, elementsCheck, mandatoryCheck}
 use Rattle.protocol.specs.Answers.{fixedCode}
-use Rattle.protocol.specs.Reading.{recordAt, recordsAt, receiversAt, messageAt, Reading, message, readPacket}
+use Rattle.protocol.specs.Reading.{recordAt, recordsAt, receiversAt, messageAt, message, readPacket}
 
 -- the last n octets of a number, most significant first, before the octets that follow
 unfoldable pub octetsOf : ℕ → ℕ → List ℕ → List ℕ

@@ -1,10 +1,10 @@
 -- What changes the cursor of a slot that is live after an event: an update request written at a poll, and nothing else.
 -- Assumes nothing.
-use Prim.Native.Nat.{ℕ, zero, suc, _%_}
+use Prim.Native.Nat.{ℕ, _%_}
 use mathlib.Core.Path.{_≡_, refl, sym, ap, subst, _∙_}
-use mathlib.Core.Bool.{Bool, true, false, _&&_, false≢true}
-use mathlib.Core.Logic.{_⊎_, inl, inr, ⊎-elim}
-use mathlib.Core.List.{List, [], _∷_, map}
+use mathlib.Core.Bool.{Bool, true, false, _&&_, and-false, false≢true}
+use mathlib.Core.Logic.{⊎-elim}
+use mathlib.Core.List.{List, [], map}
 use native.Mathlib.Decide.{ℕ-discrete}
 use lib.Dec.{eqb}
 use lib.Seq.{getD-set-other}
@@ -13,6 +13,8 @@ use lib.ListN as lists
 use borrow.Author.Tests.{eq-eqb, ne-eqb}
 use Rattle.laws.specs.Choice.{pick}
 use Rattle.laws.specs.Lists.{isEmpty}
+use Rattle.laws.proofs.Bools.{pick-of}
+use Rattle.laws.proofs.Cells.{set-here}
 use Rattle.protocol.specs.declared.Alignment.{Alignment}
 use Rattle.protocol.specs.declared.Alignment.the-variants.{Down, Negotiate, Summarize, Update, Aligned}
 use Rattle.protocol.specs.declared.Link.{Link}
@@ -86,10 +88,6 @@ cursor-completed : (l : Link) (x y : Slot) → y .link ≡ moved l x .link → y
 cursor-completed l x y a b h =
     b ∙ cursor-moved l x (ap (λ (z : Link). isLive (z .alignment)) (sym a) ∙ live-before (isEmpty (y .requests)) (y .link .alignment) h)
 
-cursor-up : (x y : Slot) → (Live y → y .cursor ≡ x .cursor) → (b : Bool) → Live (pick b y x) → pick b y x .cursor ≡ x .cursor
-cursor-up x y g true h = g h
-cursor-up x y g false h = refl
-
 -- ---- a packet
 module _ (s : Settings) (now : ℕ) (rows : List Row) (c : CaPacket) (x : Slot) where
   abbrev linkBy : CaRule → Link
@@ -122,14 +120,11 @@ cursor-read (malformed at) s live k now rows x h = cursor-moved (malformedMove (
 cursor-read (message m) s live k now rows x h = cursor-body (m .body) s live k now rows m x h
 
 -- ---- a poll
-dropped-by : (x : Slot) (c : ℕ) → (Live x → x .cursor ≡ c) → (b : Bool) → Live (pick b (withKept [] x) x) → pick b (withKept [] x) x .cursor ≡ c
-dropped-by x c g true h = g h
-dropped-by x c g false h = g h
-
 cursor-checked : (now : ℕ) (x : Slot) → Live (keptDropped now (checked now x)) → keptDropped now (checked now x) .cursor ≡ x .cursor
-cursor-checked now x h =
+cursor-checked now x =
     let y = checked now x in
-    dropped-by y (x .cursor) (cursor-moved (checkMove now (x .link)) x) (isPast (y .link .alignment) && passed caInterval (y .timers .ca) now) h
+    let g = cursor-moved (checkMove now (x .link)) x in
+    pick-of (λ (z : Slot). Live z → z .cursor ≡ x .cursor) (isPast (y .link .alignment) && passed caInterval (y .timers .ca) now) (withKept [] y) y g g
 
 cursor-due : (s : Server) → Inv s → (now k : ℕ) (y : Slot) → Plain y → length (y .peer) ≡ idLength → (c : ℕ) → (Live y → y .cursor ≡ c) → (d : Due)
     → Live (slotBy d (s .settings) now (s .rows) k y)
@@ -152,13 +147,8 @@ cursor-poll s v a k now room e h =
     (dueOf (s .settings) now (s .rows) k y) h
 
 -- ---- the slots
-set-here : (y : Slot) (l : List Slot) (k : ℕ) → (getD (lists.set l k y) k freshSlot ≡ y) ⊎ (getD (lists.set l k y) k freshSlot ≡ freshSlot)
-set-here y [] k = inr refl
-set-here y (x ∷ l) zero = inl refl
-set-here y (x ∷ l) (suc k) = set-here y l k
-
 here : (y : Slot) (l : List Slot) (k : ℕ) → Live (getD (lists.set l k y) k freshSlot) → getD (lists.set l k y) k freshSlot ≡ y
-here y l k h = ⊎-elim (λ e. e) (λ e. absurd (false≢true (rw e at h))) (set-here y l k)
+here y l k h = ⊎-elim (λ e. e) (λ e. absurd (false≢true (rw e at h))) (set-here freshSlot y l k)
 
 there : (y : Slot) (l : List Slot) (j k : ℕ) → (j ≡ k → ⊥) → getD (lists.set l j y) k freshSlot ≡ getD l k freshSlot
 there y l j k n = getD-set-other l j k y freshSlot (λ z. n (sym z))
@@ -197,10 +187,6 @@ module _ (s : Server) (v : Inv s) (a : KeptCa s) (k : ℕ) where
   poll-at j now room (no z) = λ e h.
       stood (ap (λ (q : Slot). q .cursor) (there (pollSlot (s .settings) now (s .rows) j (slotAt s j)) (s .slots) j k z)) (rw (ne-eqb j k z))
 
-  none-written : (p : Bool) → (p && false) ≡ false
-  none-written true = refl
-  none-written false = refl
-
   quiet-event : (e : Event) (j : ℕ) → (Live (slotAfter e (s .settings) (liveIn (s .slots)) (s .rows) (slotAt s j))
       → slotAfter e (s .settings) (liveIn (s .slots)) (s .rows) (slotAt s j) .cursor ≡ slotAt s j .cursor)
       → isLive (getD (lists.set (s .slots) j (slotAfter e (s .settings) (liveIn (s .slots)) (s .rows) (slotAt s j))) k freshSlot .link .alignment) ≡ true
@@ -209,12 +195,13 @@ module _ (s : Server) (v : Inv s) (a : KeptCa s) (k : ℕ) where
 
   steps : (e : Event) (b : Bool) → counts e (codeOf s e) ≡ b → Steps e b
   unfolding acted codeOf
-  steps e false q h = stood refl (none-written (isPollOf k e))
+  steps e false q h = stood refl (and-false (isPollOf k e))
   steps (addPeer j id) true q h = stood (quiet-event (addPeer j id) j (λ w. absurd (false≢true w)) h) refl
   steps (linkUp j now) true q h =
       let x = slotAt s j in
       let y = helloSent Never (moved (upMove (x .link)) x) in
-      stood (quiet-event (linkUp j now) j (cursor-up x y (cursor-moved (upMove (x .link)) x) (isDown (x .link .hello))) h) refl
+      stood (quiet-event (linkUp j now) j
+      (pick-of (λ (z : Slot). Live z → z .cursor ≡ x .cursor) (isDown (x .link .hello)) y x (cursor-moved (upMove (x .link)) x) (λ _. refl)) h) refl
   steps (linkDown j now) true q h = stood (quiet-event (linkDown j now) j (cursor-moved (downMove (slotAt s j .link)) (slotAt s j)) h) refl
   steps (packet j now p room) true q h =
       stood (quiet-event (packet j now p room) j

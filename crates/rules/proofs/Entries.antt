@@ -1,12 +1,18 @@
--- Laws of entries: the test of two entries is their equality.
+-- Laws of entries: the test of two is their equality, and each change of a row leaves its entry in it.
 -- Assumes nothing.
 use Prim.Native.Nat.{ℕ}
-use mathlib.Core.Path.{_≡_, ap}
+use mathlib.Core.Path.{_≡_, refl, ap}
+use mathlib.Core.Bool.{Bool, true, false}
 use mathlib.Core.List.{List}
-use mathlib.Core.Bool.{true}
-use Rattle.laws.specs.Tables.{same}
-use Rattle.laws.proofs.Tables.{and-true, same-refl, same-true, same-sym}
-use Rattle.rules.specs.Server.{Entry, sameEntry, Row, holds}
+use Rattle.laws.specs.Tables.{on, same}
+use Rattle.laws.proofs.Bools.{and-true, pick-of}
+use Rattle.laws.proofs.Tables.{same-refl, same-true, same-sym}
+use Rattle.protocol.specs.declared.CsaNumber.{CsaNumber}
+use Rattle.protocol.specs.Numbers.{newer}
+use Rattle.protocol.specs.Messages.{CsaRecord}
+use Rattle.rules.specs.Server.{Entry, sameEntry, Value, Row, free, used, isFree, holds}
+use Rattle.rules.specs.Rows.{unmarked}
+use Rattle.rules.specs.Updates.{changedRow, purgedRow, renewed, owed, replied}
 
 pub entry-refl : (e : Entry) → sameEntry e e ≡ true
 entry-refl e = rw (same-refl (e .key)) (same-refl (e .originator))
@@ -16,9 +22,7 @@ entry-true e f h =
     let p = and-true (same (e .key) (f .key)) (same (e .originator) (f .originator)) h in
     let q : e .key ≡ f .key = same-true (e .key) (f .key) (p .0) in
     let r : e .originator ≡ f .originator = same-true (e .originator) (f .originator) (p .1) in
-    by (e .key) (f .key) (e .originator) (f .originator) q r where
-      by : (k l o p : List ℕ) → k ≡ l → o ≡ p → _≡_ {A = Entry} (record { key = k; originator = o }) (record { key = l; originator = p })
-      by k l o p q r = rw (q, r)
+    λ i. record { key = q i; originator = r i }
 
 pub entry-sym : (e f : Entry) → sameEntry e f ≡ sameEntry f e
 entry-sym e f = rw (same-sym (e .key) (f .key), same-sym (e .originator) (f .originator))
@@ -29,3 +33,43 @@ entry-along t e f h = ap t (entry-true e f h)
 
 pub holds-along : (e f : Entry) (r : Row) → sameEntry e f ≡ true → holds e r ≡ holds f r
 holds-along e f r h = entry-along (λ g. holds g r) e f h
+
+-- ---- two rows that are free, or hold the same entry
+pub record Alike (a b : Row) : Type 0 where
+  pub frees : isFree b ≡ isFree a
+  pub holders : (e : Entry) → holds e b ≡ holds e a
+
+alike-free : Alike free free
+alike-free = record { frees = refl; holders = λ e. refl }
+
+alike-used : (e : Entry) (v w : Value) (m n : ℕ → Bool) → Alike (used e v m) (used e w n)
+alike-used e v w m n = record { frees = refl; holders = λ f. refl }
+
+pub alike-unmarked : (k : ℕ) (r : Row) → Alike r (unmarked k r)
+alike-unmarked k free = alike-free
+alike-unmarked k (used e v m) = alike-used e v _ m _
+
+pub alike-owed : (k : ℕ) (r : Row) → Alike r (owed k r)
+alike-owed k free = alike-free
+alike-owed k (used e v m) = alike-used e v _ m _
+
+pub alike-replied : (k : ℕ) (n : CsaNumber) (r : Row) → Alike r (replied k n r)
+alike-replied k n free = alike-free
+alike-replied k n (used e v m) =
+    let r : Row = used e v m in
+    let q : Row = used e v (on k false m) in
+    pick-of (Alike r) (newer n (v .number)) r _ (alike-used e v v m m)
+    (pick-of (Alike r) (newer (v .number) n) r q (alike-used e v v m m) (alike-used e v v m (on k false m)))
+
+module _ (live : ℕ → Bool) where
+  pub alike-renewed : (k : ℕ) (c : CsaRecord) (r : Row) → Alike r (renewed live k c r)
+  alike-renewed k c free = alike-free
+  alike-renewed k c (used e v m) = alike-used e v _ m _
+
+  pub alike-changed : (payload : List ℕ) (r : Row) → Alike r (changedRow live payload r)
+  alike-changed payload free = alike-free
+  alike-changed payload (used e v m) = alike-used e v _ m _
+
+  pub alike-purged : (r : Row) → Alike r (purgedRow live r)
+  alike-purged free = alike-free
+  alike-purged (used e v m) = alike-used e v _ m _

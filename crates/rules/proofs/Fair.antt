@@ -10,6 +10,8 @@ use lib.Dec.{eqb}
 use borrow.Author.Tests.{eqb-true}
 use Rattle.laws.specs.Choice.{pick}
 use Rattle.laws.specs.Tables.{has, count}
+use Rattle.laws.proofs.Bools.{or-false, or-right, is-true, pick-of}
+use Rattle.laws.proofs.Cells.{has-at, within}
 use Rattle.protocol.specs.Sizes.{idLength}
 use Rattle.protocol.specs.Fields.{field2}
 use Rattle.protocol.specs.Messages.{CsaRecord}
@@ -25,7 +27,6 @@ use Rattle.rules.specs.Demand3.{isPollOf, isRequest, requestIn, isUpdate
 use Rattle.rules.proofs.Relation.{Inv, Rel}
 use Rattle.rules.proofs.Invariant.{inv-step}
 use Rattle.rules.proofs.RelStep.{rel-step}
-use Rattle.rules.proofs.WaitLaws.{or-false, or-right, has-at, within}
 use Rattle.rules.proofs.Waits.{waiting-row}
 use Rattle.rules.proofs.TurnLaws.{far, far-row, turn}
 use Rattle.rules.proofs.Kept.{KeptCa, kept-step}
@@ -63,10 +64,6 @@ update-of : (p : CsaRecord → Bool) (polled : Bool) (w : List ℕ) → polled �
 update-of p polled w e h = rw e (update-by p (recordsAt idLength w (field2 w 18) 28) (isRequest w) h)
 
 -- ---- one event brings the cursor no further away, and an update request that leaves the entry out brings it nearer
-near-pick : (f g : ℕ) (b : Bool) → 4 + f ≤ g → pick b 4 0 + f ≤ g
-near-pick f g true h = h
-near-pick f g false h = omega arith
-
 far-same : (c d i : ℕ) → c ≡ d → 0 + far c i ≤ far d i
 far-same c d i z = rw z (omega arith)
 
@@ -80,7 +77,9 @@ near rows k i e q p t c c′ polled w (sends o b z) n = by (turn rows k c i q t)
   by (inl h) =
       absurd (false≢true (sym n
       ∙ update-of (isE e) polled w o (ap (has (isE e)) b ∙ written-so rows e (c + far c i) (rw (far-row c i q) p) (nextWaiting rows k c) h)))
-  by (inr h) = near-pick (far c′ i) (far c i) (polled && isRequest w) (rw z h)
+  by (inr h) =
+      let q : 4 + far c′ i ≤ far c i = rw z h in
+      pick-of (λ (n : ℕ). n + far c′ i ≤ far c i) (polled && isRequest w) 4 0 q (omega arith)
 
 -- ---- while it is left out, the update requests are few
 through-now : (c : Settings) (k : ℕ) (e : Entry) (h : History) (is : List Item) → WaitsThrough c k e h is → has (history.waitsFor k e) (h .entries) ≡ true
@@ -111,10 +110,6 @@ few c k i e q s h (y ∷ es) v r a p t n =
     (near (s .rows) k i e q p (rw (← z) (x .2)) (slotAt s k .cursor) (slotAt s′ k .cursor) (isPollOf k y) (writtenAt s y)
     (cursor-step s v a k y live) (m .0))
 
-not-so : (b : Bool) → (b ≡ false → ⊥) → b ≡ true
-not-so true h = refl
-not-so false h = absurd (h refl)
-
 too-many : (n c i : ℕ) → 16 ≤ n → n * 4 ≤ far c i → ⊥
 too-many n c i a b = omega arith
 
@@ -123,4 +118,4 @@ pub fair : (c : Settings) (s : Server) (h : History) → Inv s → Rel c s h →
 fair c s h v r a k e es t many =
     let x = waiting-row (s .rows) (h .entries) (r .rows) k e (through-now c k e h (items s es) t) in
     let lt : x .0 < 64 = rw (← (v .rows .size)) (within free (holds e) refl (s .rows) (x .0) (x .1)) in
-    not-so (has (isUpdateOf k e) (items s es)) (λ n. too-many (count (isUpdateTo k) (items s es)) (slotAt s k .cursor) (x .0) many (few c k (x .0) e lt s h es v r a (x .1) t n))
+    is-true (has (isUpdateOf k e) (items s es)) (λ n. too-many (count (isUpdateTo k) (items s es)) (slotAt s k .cursor) (x .0) many (few c k (x .0) e lt s h es v r a (x .1) t n))

@@ -1,20 +1,23 @@
--- The links of a slot move alike whether or not Aligned is told from Update, and a slot moved has the link that it is moved to.
+-- The links of a slot move alike, and show the same, whether or not Aligned is told from Update; a slot moved has the link that it is moved to.
 -- Assumes nothing.
 use Prim.Native.Nat.{ℕ}
-use mathlib.Core.Path.{_≡_, refl, ap, _∙_}
+use mathlib.Core.Path.{_≡_, refl, ap, _∙_, fun-ext}
 use mathlib.Core.Bool.{Bool, true, false, _&&_, _||_}
-use mathlib.Core.List.{List}
-use Rattle.laws.specs.Choice.{pick}
+use mathlib.Core.List.{List, map}
+use lib.ListN.{getD, List·getD-map}
 use Rattle.laws.specs.Lists.{isEmpty}
+use Rattle.laws.proofs.Bools.{pick-of, pick-ap}
 use Rattle.protocol.specs.declared.Role.{Role}
 use Rattle.protocol.specs.declared.Role.the-variants.{Master, Slave}
 use Rattle.protocol.specs.declared.Alignment.{Alignment}
 use Rattle.protocol.specs.declared.Alignment.the-variants.{Down, Negotiate, Summarize, Update, Aligned}
 use Rattle.protocol.specs.declared.Link.{Link}
-use Rattle.rules.specs.Server.{Slot}
+use Rattle.rules.specs.Server.{Slot, freshSlot}
 use Rattle.rules.specs.Links.{isLive, isPast, isDown, isBidirectional, hearsPeer, enters, withAlignment, recorded, negotiating, upMove, downMove, helloMove, malformedMove, checkMove, CaIn, CaRule, refuse, becomeSlave, becomeMaster, repeat, slaveOn, masterOn, masterDone, ignore, restart, pastRule, ruleIn, caRule, caMove}
 use Rattle.protocol.specs.Hello.{stale}
 use Rattle.rules.specs.Slots.{withLink, emptied, moved, alignedIf, completed}
+use Rattle.rules.specs.Events.{alignmentAt, liveIn}
+use Rattle.rules.specs.History.{linkAt, liveLinks}
 use Rattle.rules.proofs.Relation.{pastAs, forget, linkOf}
 
 -- ---- tests and rules do not tell Aligned from Update
@@ -83,15 +86,11 @@ pub rule-forget : (id : List ℕ) (c : CaIn) (kept : Bool) (l : Link) → caRule
 rule-forget id c kept l = rule-past id c kept l (l .alignment) (pastAs (l .alignment))
 
 -- ---- the moves of a link
-forget-pick : (b : Bool) (l m : Link) → forget (pick b l m) ≡ pick b (forget l) (forget m)
-forget-pick true l m = refl
-forget-pick false l m = refl
-
 pub negotiating-forget : (l : Link) → forget (negotiating l) ≡ negotiating (forget l)
 negotiating-forget l = refl
 
 pub up-forget : (l : Link) → forget (upMove l) ≡ upMove (forget l)
-up-forget l = forget-pick (isDown (l .hello)) _ l
+up-forget l = pick-ap forget (isDown (l .hello)) _ l
 
 pub down-forget : (l : Link) → forget (downMove l) ≡ downMove (forget l)
 down-forget l = refl
@@ -100,34 +99,26 @@ pub malformed-forget : (l : Link) → forget (malformedMove l) ≡ malformedMove
 malformed-forget l = refl
 
 pub check-forget : (now : ℕ) (l : Link) → forget (checkMove now l) ≡ checkMove now (forget l)
-check-forget now l = forget-pick (hearsPeer (l .hello) && stale (l .interval) (l .factor) (l .heard) now) _ l
+check-forget now l = pick-ap forget (hearsPeer (l .hello) && stale (l .interval) (l .factor) (l .heard) now) _ l
 
 pub hello-forget : (now i f : ℕ) (named : Bool) (l : Link) → forget (helloMove now i f named l) ≡ helloMove now i f named (forget l)
-hello-forget now i f true l = forget-pick (isBidirectional (l .hello)) (recorded now i f l) _
+hello-forget now i f true l = pick-ap forget (isBidirectional (l .hello)) (recorded now i f l) _
 hello-forget now i f false l = refl
-
-past-pick : (b : Bool) → pastAs (pick b (Summarize Slave) Update) ≡ pick b (Summarize Slave) Update
-past-pick true = refl
-past-pick false = refl
 
 pub ca-forget : (u : CaRule) (c : CaIn) (more : Bool) (l : Link) → forget (caMove u c more l) ≡ caMove u c more (forget l)
 ca-forget refuse c more l = refl
 ca-forget becomeSlave c more l = refl
 ca-forget becomeMaster c more l = refl
 ca-forget repeat c more l = refl
-ca-forget slaveOn c more l = ap (λ a. withAlignment a (caMove slaveOn c more l)) (past-pick (c .head .flags .more || more))
+ca-forget slaveOn c more l = ap (λ a. withAlignment a (caMove slaveOn c more l)) (pick-ap pastAs (c .head .flags .more || more) (Summarize Slave) Update)
 ca-forget masterOn c more l = refl
 ca-forget masterDone c more l = refl
 ca-forget ignore c more l = refl
 ca-forget restart c more l = refl
 
 -- ---- the link of a slot
-pub link-pick : (b : Bool) (l : Link) (x y : Slot) → x .link ≡ l → y .link ≡ l → pick b x y .link ≡ l
-link-pick true l x y h g = h
-link-pick false l x y h g = g
-
 pub moved-link : (l : Link) (x : Slot) → moved l x .link ≡ l
-moved-link l x = link-pick (enters (x .link .alignment) (l .alignment)) l (emptied (withLink l x)) (withLink l x) refl refl
+moved-link l x = pick-of (λ (y : Slot). y .link ≡ l) (enters (x .link .alignment) (l .alignment)) (emptied (withLink l x)) (withLink l x) refl refl
 
 aligned-past : (b : Bool) (a : Alignment) → pastAs (alignedIf b a) ≡ pastAs a
 aligned-past b Down = refl
@@ -139,3 +130,16 @@ aligned-past b Aligned = refl
 
 pub completed-link : (x : Slot) → linkOf (completed x) ≡ linkOf x
 completed-link x = ap (λ a. withAlignment a (x .link)) (aligned-past (isEmpty (x .requests)) (x .link .alignment))
+
+-- ---- the links that the history has of the slots
+pub link-at : (slots : List Slot) (k : ℕ) → linkAt (map linkOf slots) k ≡ linkOf (getD slots k freshSlot)
+link-at slots k = List·getD-map linkOf slots k freshSlot
+
+-- it sees the slots that puts go to, and the entering of Down or Negotiate
+pub live-links : (slots : List Slot) → liveLinks (map linkOf slots) ≡ liveIn slots
+live-links slots = fun-ext (λ k. ap (λ l. isLive (l .alignment)) (link-at slots k) ∙ live-past (alignmentAt slots k))
+
+pub enters-links : (before after : List Slot) (k : ℕ)
+    → enters (linkAt (map linkOf before) k .alignment) (linkAt (map linkOf after) k .alignment) ≡ enters (alignmentAt before k) (alignmentAt after k)
+enters-links before after k =
+    (λ i. enters (link-at before k i .alignment) (link-at after k i .alignment)) ∙ enters-past (alignmentAt before k) (alignmentAt after k)

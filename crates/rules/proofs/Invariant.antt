@@ -1,42 +1,31 @@
 -- The invariant holds of a fresh server and after each event, and no event lets an entry's number fall.
 -- Assumes nothing.
-use Prim.Native.Nat.{ℕ, zero, suc, _≤_}
-use mathlib.Core.Path.{_≡_, refl, sym, _∙_}
-use mathlib.Core.Bool.{Bool, true, false, not, _&&_, _||_, false≢true}
+use Prim.Native.Nat.{ℕ, _≤_}
+use mathlib.Core.Path.{_≡_, refl, _∙_}
+use mathlib.Core.Bool.{Bool, true, false, not, _&&_, false≢true}
 use mathlib.Core.List.{List, [], _∷_}
-use native.Mathlib.Omega.{arith}
-use lib.Dec.{eqb, ltb, leb}
+use lib.Dec.{ltb, leb}
 use lib.Signed.{≤ℤ-refl}
 use lib.ListN.{length, length-map, length-replicate, List·getD-map}
-use borrow.Author.Tests.{ltb-true, leb-true, eqb-true, eq-eqb, not-false}
-use Rattle.laws.specs.Choice.{pick}
-use Rattle.laws.specs.Tables.{has, same}
-use Rattle.laws.proofs.Changes.{and-true, or-false, all-alike}
-use Rattle.protocol.specs.declared.Alignment.{Alignment}
-use Rattle.protocol.specs.declared.Alignment.the-variants.{Down, Negotiate, Summarize, Update, Aligned}
+use borrow.Author.Tests.{ltb-true, leb-true}
+use Rattle.laws.proofs.Bools.{and-true, pick-of}
+use Rattle.laws.proofs.Cells.{all-alike}
 use Rattle.protocol.specs.Sizes.{idLength, keyMost, payloadMost}
 use Rattle.protocol.specs.Messages.{Message, Body, ca, csuRequest, csuReply, csus, hello}
 use Rattle.protocol.specs.Reading.{Reading, refused, malformed, message, readPacket}
-use Rattle.rules.specs.Server.{slotsMost, rowsMost, Settings, settingsCode, Entry, Row, free, used, isFree, holds, waitsFor, rowAt, Slot, freshSlot, Server, slotAt, fresh}
-use Rattle.rules.specs.Links.{isLive, isPast}
+use Rattle.rules.specs.Server.{slotsMost, rowsMost, Settings, settingsCode, Entry, Row, free, used, holds, waitsFor, rowAt, freshSlot, Server, slotAt, fresh}
 use Rattle.rules.specs.Rows.{isPurged, anySlot, sweptRow, swept}
 use Rattle.rules.specs.Packets.{rowsOn}
-use Rattle.rules.specs.Refusals.{orElse, pollCode, isHello, unusable, messageCode, keyGood, payloadGood, ownEntry, holdsSpent, setCode}
+use Rattle.rules.specs.Refusals.{unusable, keyGood, payloadGood, ownEntry}
 use Rattle.rules.specs.Events.{Event, addPeer, linkUp, linkDown, packet, poll, set, withdraw, purge, codeOf, counts, placeOf, liveIn, slotsAfter, readRows, rowsChanged, cleared, acted, serverIf, step, run}
 use Rattle.rules.specs.Demand3.{NotLess}
 use Rattle.rules.proofs.Relation.{SizedEntry, Sized, RowsInv, Inv}
 use Rattle.rules.proofs.RowGrows.{Keep, Grows, grows-refl, grows-trans}
 use Rattle.rules.proofs.RowsKeep.{grows-updated, grows-all-replied, grows-set, grows-withdraw, grows-purge, read-sized}
-use Rattle.rules.proofs.SlotsKeep.{no-code, slots-length, slots-peered, grows-cleared}
+use Rattle.rules.proofs.SlotsKeep.{slots-length, slots-peered, grows-cleared}
+use Rattle.rules.proofs.CodeTold.{own-told, set-told, message-told, past-live}
 
--- ---- what a code tells
-set-told : (s : Server) (key payload : List ℕ) → eqb (setCode s key payload) 0 ≡ true → (keyGood key ≡ true) × (payloadGood payload ≡ true)
-set-told s key payload h =
-    let e : Entry = ownEntry (s .settings) key in
-    let f = no-code (not (keyGood key && payloadGood payload)) 17
-    (pick (has (holdsSpent e) (s .rows)) 16 (pick (not (has (holds e) (s .rows)) && not (has isFree (s .rows))) 15 0)) refl h in
-    and-true (keyGood key) (payloadGood payload) (not-false (keyGood key && payloadGood payload) (f .0))
-
+-- ---- what is good has its sizes
 own-sized : (s : Settings) (key : List ℕ) → length (s .id) ≡ idLength → keyGood key ≡ true → SizedEntry (ownEntry s key)
 own-sized s key h g =
     let f = and-true (ltb 0 (length key)) (leb (length key) keyMost) g in
@@ -44,43 +33,6 @@ own-sized s key h g =
 
 payload-sized : (p : List ℕ) → payloadGood p ≡ true → length p ≤ payloadMost
 payload-sized p g = leb-true (length p) payloadMost (and-true (ltb 0 (length p)) (leb (length p) payloadMost) g .1)
-
-only-code : (a b : Bool) → (a || (b && false)) ≡ true → a ≡ true
-only-code true b h = refl
-only-code false true h = h
-only-code false false h = h
-
-or-else : (a b : ℕ) → orElse a b ≡ 0 → b ≡ 0
-or-else zero b h = h
-or-else (suc a) b h = absurd (omega arith)
-
-usable : (s : Settings) (x : Slot) (m : Message) → eqb (messageCode s x m) 0 ≡ true → unusable s m x (m .body) ≡ false
-usable s x m h =
-    let a : Bool = not (eqb (m .protocol) (s .protocol) && eqb (m .group) (s .group)) in
-    let b : Bool = not (isHello (m .body)) && not (same (m .receiver) (s .id)) in
-    let c : Bool = not (same (m .sender) (x .peer)) in
-    let d : Bool = unusable s m x (m .body) in
-    no-code d 14 0 refl (no-code c 13 (pick d 14 0) refl (no-code b 12 (pick c 13 (pick d 14 0)) refl
-    (no-code a 11 (pick b 12 (pick c 13 (pick d 14 0))) refl h .1) .1) .1) .0
-
--- a message that is taken can be used in its slot
-pub message-told : (s : Server) (k now : ℕ) (p : List ℕ) (room : ℕ) (m : Message) → readPacket idLength p ≡ message m
-    → counts (packet k now p room) (codeOf s (packet k now p room)) ≡ true → unusable (s .settings) m (slotAt s k) (m .body) ≡ false
-unfolding codeOf
-message-told s k now p room m e c =
-    let f : (eqb (orElse (pollCode s k now room) (messageCode (s .settings) (slotAt s k) m)) 0
-    || (eqb (orElse (pollCode s k now room) (messageCode (s .settings) (slotAt s k) m)) 10 && false)) ≡ true = rw e at c in
-    let n : ℕ = messageCode (s .settings) (slotAt s k) m in
-    let z : n ≡ 0 = or-else (pollCode s k now room) n
-    (eqb-true (orElse (pollCode s k now room) n) 0 (only-code (eqb (orElse (pollCode s k now room) n) 0) (eqb (orElse (pollCode s k now room) n) 10) f)) in
-    usable (s .settings) (slotAt s k) m (eq-eqb n 0 z)
-
-past-live : (a : Alignment) → not (isPast a) ≡ false → isLive a ≡ true
-past-live Down h = sym h
-past-live Negotiate h = sym h
-past-live (Summarize r) h = refl
-past-live Update h = refl
-past-live Aligned h = refl
 
 -- ---- the rows that an event changes
 grows-body : (s : Server) (k : ℕ) (p : List ℕ) (m : Message) → RowsInv (liveIn (s .slots)) (s .rows) → readPacket idLength p ≡ message m
@@ -110,27 +62,23 @@ grows-changed s (packet k now p room) v c = grows-read s k now p room (v .rows) 
 grows-changed s (poll k now room) v c = grows-refl (liveIn (s .slots)) (s .rows) (v .rows)
 grows-changed s (set key payload) v c =
     let f = set-told s key payload c in
-    grows-set (liveIn (s .slots)) (ownEntry (s .settings) key) (s .rows) (v .rows) payload (payload-sized payload (f .1)) (own-sized (s .settings) key (v .own) (f .0))
+    grows-set (liveIn (s .slots)) (ownEntry (s .settings) key) (s .rows) (v .rows) payload (payload-sized payload (f .0 .1)) (own-sized (s .settings) key (v .own) (f .0 .0))
 grows-changed s (withdraw key) v c = grows-withdraw (liveIn (s .slots)) (ownEntry (s .settings) key) (s .rows) (v .rows)
 grows-changed s (purge key) v c = grows-purge (liveIn (s .slots)) (ownEntry (s .settings) key) (s .rows) (v .rows)
 
 -- ---- the sweep: a row is as it was, or free
-data Swept (r : Row) : Row → Type 0 where
+pub data Swept (r : Row) : Row → Type 0 where
   stays : Swept r r
   freed : Swept r free
 
-swept-by : (r : Row) (b : Bool) → Swept r (pick b free r)
-swept-by r true = freed
-swept-by r false = stays
-
 swept-row : (r : Row) → Swept r (sweptRow r)
 swept-row free = stays
-swept-row (used e v m) = swept-by (used e v m) (isPurged (v .number) && not (anySlot m))
+swept-row (used e v m) = pick-of (Swept (used e v m)) (isPurged (v .number) && not (anySlot m)) free (used e v m) freed stays
 
-swept-at : (rows : List Row) (i : ℕ) → Swept (rowAt rows i) (rowAt (swept rows) i)
+pub swept-at : (rows : List Row) (i : ℕ) → Swept (rowAt rows i) (rowAt (swept rows) i)
 swept-at rows i = rw (List·getD-map sweptRow rows i free) (swept-row (rowAt rows i))
 
-swept-holds : (e : Entry) (r q : Row) → Swept r q → holds e q ≡ true → holds e r ≡ true
+pub swept-holds : (e : Entry) (r q : Row) → Swept r q → holds e q ≡ true → holds e r ≡ true
 swept-holds e r q stays h = h
 swept-holds e r q freed h = absurd (false≢true h)
 
@@ -209,13 +157,6 @@ unfolding step
 never-falls s v e i = falls-by s e v i (counts e (codeOf s e)) refl
 
 -- ---- a fresh server
-own-told : (c : Settings) → settingsCode c ≡ 0 → length (c .id) ≡ idLength
-own-told c h =
-    let wrong : Bool = not (eqb (length (c .id)) idLength) in
-    let zero-set : Bool = eqb (c .interval) 0 || eqb (c .factor) 0 in
-    let f = no-code (wrong || zero-set) 17 0 refl (eq-eqb (settingsCode c) 0 h) in
-    eqb-true (length (c .id)) idLength (not-false (eqb (length (c .id)) idLength) (or-false wrong zero-set (f .0) .0))
-
 pub inv-fresh : (c : Settings) → settingsCode c ≡ 0 → Inv (fresh c)
 inv-fresh c h =
     record {

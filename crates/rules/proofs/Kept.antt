@@ -5,7 +5,8 @@ use mathlib.Core.Path.{_≡_, refl}
 use mathlib.Core.Bool.{Bool, true, false, _&&_}
 use mathlib.Core.List.{List, []}
 use lib.ListN.{getD}
-use Rattle.laws.specs.Choice.{pick}
+use Rattle.laws.proofs.Cells.{each-set, all-alike}
+use Rattle.laws.proofs.Bools.{pick-of}
 use Rattle.protocol.specs.declared.Last.the-variants.{Never}
 use Rattle.protocol.specs.declared.Link.{Link}
 use Rattle.protocol.specs.Sizes.{idLength}
@@ -21,7 +22,6 @@ use Rattle.rules.specs.Packets.{slotOn, namesUs}
 use Rattle.rules.specs.Poll.{Due, none, aHello, firstCa, keptCa, aCsus, anUpdate, firstFlags, slotBy, dueOf, caInterval, keptDropped, checked, pollSlot}
 use Rattle.rules.specs.Events.{Event, addPeer, linkUp, linkDown, packet, poll, set, withdraw, purge, counts, codeOf, Place, inSlot, nowhere, placeOf, liveIn, readSlot, slotAfter, slotsAfter, acted, serverIf, step}
 use Rattle.rules.specs.Demand3.{isRequest}
-use Rattle.rules.proofs.WaitLaws.{all-set, all-replicate}
 use Rattle.rules.proofs.RequestBack.{not-ca}
 
 abbrev pub KeptCa : Server → Type 0
@@ -31,19 +31,11 @@ abbrev pub Plain : Slot → Type 0
 Plain x = isRequest (x .kept) ≡ false
 
 pub kept-fresh : (c : Settings) → KeptCa (fresh c)
-kept-fresh c k = all-replicate freshSlot Plain refl slotsMost k
+kept-fresh c k = rw (all-alike freshSlot slotsMost k)
 
 -- ---- a slot that moves
-moved-by : (l : Link) (x : Slot) → Plain x → (b : Bool) → Plain (pick b (emptied (withLink l x)) (withLink l x))
-moved-by l x p true = refl
-moved-by l x p false = p
-
 plain-moved : (l : Link) (x : Slot) → Plain x → Plain (moved l x)
-plain-moved l x p = moved-by l x p (enters (x .link .alignment) (l .alignment))
-
-up-by : (x y : Slot) → Plain x → Plain y → (b : Bool) → Plain (pick b y x)
-up-by x y p q true = q
-up-by x y p q false = p
+plain-moved l x p = pick-of Plain (enters (x .link .alignment) (l .alignment)) (emptied (withLink l x)) (withLink l x) refl p
 
 -- ---- a packet
 plain-ca : (u : CaRule) (s : Settings) (now : ℕ) (rows : List Row) (c : CaPacket) (x : Slot) → Plain x → Plain (caSlot u s now rows c x)
@@ -82,15 +74,12 @@ plain-by keptCa s now rows k y p = p
 plain-by aCsus s now rows k y p = p
 plain-by anUpdate s now rows k y p = p
 
-drop-by : (y : Slot) → Plain y → (b : Bool) → Plain (pick b (withKept [] y) y)
-drop-by y p true = refl
-drop-by y p false = p
-
 -- the slot that a poll looks at
 pub plain-checked : (now : ℕ) (x : Slot) → Plain x → Plain (keptDropped now (checked now x))
 plain-checked now x p =
     let c = checked now x in
-    drop-by c (plain-moved (checkMove now (x .link)) x p) (isPast (c .link .alignment) && passed caInterval (c .timers .ca) now)
+    pick-of Plain (isPast (c .link .alignment) && passed caInterval (c .timers .ca) now) (withKept [] c) c refl
+    (plain-moved (checkMove now (x .link)) x p)
 
 plain-poll : (s : Settings) (now : ℕ) (rows : List Row) (k : ℕ) (x : Slot) → Plain x → Plain (pollSlot s now rows k x)
 plain-poll s now rows k x p =
@@ -100,7 +89,8 @@ plain-poll s now rows k x p =
 -- ---- an event
 plain-after : (e : Event) (s : Settings) (live : ℕ → Bool) (rows : List Row) (x : Slot) → Plain x → Plain (slotAfter e s live rows x)
 plain-after (addPeer k id) s live rows x p = refl
-plain-after (linkUp k now) s live rows x p = up-by x (helloSent Never (moved (upMove (x .link)) x)) p (plain-moved (upMove (x .link)) x p) (isDown (x .link .hello))
+plain-after (linkUp k now) s live rows x p =
+    pick-of Plain (isDown (x .link .hello)) (helloSent Never (moved (upMove (x .link)) x)) x (plain-moved (upMove (x .link)) x p) p
 plain-after (linkDown k now) s live rows x p = plain-moved (downMove (x .link)) x p
 plain-after (packet k now o room) s live rows x p = plain-read (readPacket idLength o) s live k now rows x p
 plain-after (poll k now room) s live rows x p = plain-poll s now rows k x p
@@ -111,7 +101,7 @@ plain-after (purge key) s live rows x p = p
 plain-place : (w : Place) (e : Event) (s : Server) → KeptCa s → (j : ℕ) → Plain (getD (slotsAfter w e s) j freshSlot)
 plain-place (inSlot k) e s h j =
     let y = slotAfter e (s .settings) (liveIn (s .slots)) (s .rows) (slotAt s k) in
-    all-set freshSlot Plain (s .slots) k y (plain-after e (s .settings) (liveIn (s .slots)) (s .rows) (slotAt s k) (h k)) h j
+    each-set Plain freshSlot y (plain-after e (s .settings) (liveIn (s .slots)) (s .rows) (slotAt s k) (h k)) (s .slots) k h j
 plain-place nowhere e s h j = h j
 
 plain-if : (b : Bool) (s : Server) (e : Event) → KeptCa s → KeptCa (serverIf b s e)

@@ -2,9 +2,9 @@ pub mod Listing
 pub mod Relation
 pub mod RequestBack
 pub mod Forget
+pub mod CodeTold
 pub mod LinkSim
 pub mod Others
-pub mod EntryLaws
 pub mod CsaOrder
 pub mod RowGrows
 pub mod RowsKeep
@@ -15,7 +15,6 @@ pub mod RowSim
 pub mod RowChanges
 pub mod RowActs
 pub mod RelStep
-pub mod WaitLaws
 pub mod Waits
 pub mod TurnLaws
 pub mod Kept

@@ -1,14 +1,15 @@
 -- The slots of the server move as those of the history do.
 -- Assumes nothing.
-use Prim.Native.Nat.{ℕ, zero, suc, _+_, _*_, _/_, _%_}
-use mathlib.Core.Path.{_≡_, refl, sym, ap, _∙_, fun-ext}
+use Prim.Native.Nat.{ℕ, _+_, _*_, _/_, _%_}
+use mathlib.Core.Path.{_≡_, refl, sym, ap, _∙_}
 use mathlib.Core.Bool.{Bool, true, false, not, _&&_}
-use mathlib.Core.List.{List, [], _∷_, map}
+use mathlib.Core.List.{List, [], map}
 use lib.Dec.{leb}
-use lib.ListN.{getD, List·getD-map}
 use lib.ListN as lists
 use Rattle.laws.specs.Choice.{pick}
 use Rattle.laws.specs.Lists.{isEmpty}
+use Rattle.laws.proofs.Lists.{map-set}
+use Rattle.laws.proofs.Bools.{pick-of}
 use Rattle.protocol.specs.declared.CaNumber.{CaNumber}
 use Rattle.protocol.specs.declared.CaFlags.{CaFlags}
 use Rattle.protocol.specs.declared.Role.{Role}
@@ -21,17 +22,17 @@ use Rattle.protocol.specs.Sizes.{idLength}
 use Rattle.protocol.specs.Messages.{CsaRecord, Message, Body, ca, csuRequest, csuReply, csus, hello}
 use Rattle.protocol.specs.Layouts.{bit, mandatory, layout, packetOf}
 use Rattle.protocol.specs.Reading.{Reading, refused, malformed, message, readPacket}
-use Rattle.rules.specs.Server.{Settings, Row, Slot, freshSlot, Server, slotAt}
-use Rattle.rules.specs.Links.{isLive, isPast, isDown, enters, negotiating, upMove, downMove, helloMove, malformedMove, checkMove, CaIn, sameHead, CaRule, refuse, becomeSlave, becomeMaster, repeat, slaveOn, masterOn, masterDone, ignore, restart, pastRule, ruleIn, caRule, caMove}
+use Rattle.rules.specs.Server.{Settings, Row, Slot, Server, slotAt}
+use Rattle.rules.specs.Links.{isPast, isDown, negotiating, upMove, downMove, helloMove, malformedMove, checkMove, CaIn, sameHead, CaRule, refuse, becomeSlave, becomeMaster, repeat, slaveOn, masterOn, masterDone, ignore, restart, pastRule, ruleIn, caRule, caMove}
 use Rattle.rules.specs.Slots.{toPeer, withKept, withRequests, helloSent, moved, completed, passed}
 use Rattle.rules.specs.Sent.{octetsOf}
 use Rattle.rules.specs.Alignment.{CaPacket, caPacket, ruleFor, answerMore, answering, taking, caSentBy, caSlot}
 use Rattle.rules.specs.Packets.{namesUs, updatedBy, slotOn, sentOn}
 use Rattle.rules.specs.Poll.{Due, none, aHello, firstCa, keptCa, aCsus, anUpdate, caInterval, dueOf, slotBy, keptDropped, checked, pollSlot}
-use Rattle.rules.specs.Events.{Event, addPeer, linkUp, linkDown, packet, poll, set, withdraw, purge, codeOf, counts, Place, inSlot, nowhere, placeOf, alignmentAt, liveIn, readSlot, slotAfter, slotsAfter, readSent, sentBy, sentIf, writtenAt}
-use Rattle.rules.specs.History.{History, moreIn, caLink, bodyLink, readLink, linkAfter, linkAt, linksAfter, liveLinks}
+use Rattle.rules.specs.Events.{Event, addPeer, linkUp, linkDown, packet, poll, set, withdraw, purge, codeOf, counts, Place, inSlot, nowhere, placeOf, liveIn, readSlot, slotAfter, slotsAfter, readSent, sentBy, sentIf, writtenAt}
+use Rattle.rules.specs.History.{History, moreIn, caLink, bodyLink, readLink, linkAfter, linksAfter}
 use Rattle.rules.proofs.Relation.{forget, linkOf}
-use Rattle.rules.proofs.Forget.{live-past, enters-past, rule-forget, up-forget, check-forget, hello-forget, ca-forget, link-pick, moved-link, completed-link}
+use Rattle.rules.proofs.Forget.{rule-forget, up-forget, check-forget, hello-forget, ca-forget, moved-link, completed-link, link-at}
 
 -- ---- a CA of ours, as the history sees it
 more-bit : (m i o : Bool) → leb 32 ((bit m * 32768 + bit i * 16384 + bit o * 8192 + 0) / 256 % 64) ≡ o
@@ -143,7 +144,8 @@ due-link aCsus s now rows k y = refl
 due-link anUpdate s now rows k y = refl
 
 dropped-link : (now : ℕ) (y : Slot) → keptDropped now y .link ≡ y .link
-dropped-link now y = link-pick (isPast (y .link .alignment) && passed caInterval (y .timers .ca) now) (y .link) (withKept [] y) y refl refl
+dropped-link now y =
+    pick-of (λ (x : Slot). x .link ≡ y .link) (isPast (y .link .alignment) && passed caInterval (y .timers .ca) now) (withKept [] y) y refl refl
 
 pub poll-link : (s : Settings) (now : ℕ) (rows : List Row) (k : ℕ) (x : Slot) → pollSlot s now rows k x .link ≡ checkMove now (x .link)
 poll-link s now rows k x =
@@ -181,28 +183,6 @@ link-step s c e same k at h =
     event-link s e k at ∙ (λ i. linkAfter e (same i) (sym (wrote-as s e h) i) (linkOf (slotAt s k)))
 
 -- ---- all slots
-map-set : {A B : Type 0} (f : A → B) (l : List A) (k : ℕ) (y : A) → map f (lists.set l k y) ≡ lists.set (map f l) k (f y)
-map-set f [] k y = refl
-map-set f (x ∷ xs) zero y = refl
-map-set f (x ∷ xs) (suc k) y = ap (λ l. f x ∷ l) (map-set f xs k y)
-
-pub link-at : (slots : List Slot) (k : ℕ) → linkAt (map linkOf slots) k ≡ linkOf (getD slots k freshSlot)
-link-at slots k = List·getD-map linkOf slots k freshSlot
-
-pub live-links : (slots : List Slot) (k : ℕ) → liveLinks (map linkOf slots) k ≡ liveIn slots k
-live-links slots k = ap (λ l. isLive (l .alignment)) (link-at slots k) ∙ live-past (getD slots k freshSlot .link .alignment)
-
--- the history sees the slots that puts go to, and the entering of Down or Negotiate
-pub live-seen : (slots : List Slot) (ls : List Link) → map linkOf slots ≡ ls → liveLinks ls ≡ liveIn slots
-live-seen slots ls e = fun-ext (λ k. ap (λ m. liveLinks m k) (sym e) ∙ live-links slots k)
-
-pub enters-seen : (before after : List Slot) (ls ms : List Link) → map linkOf before ≡ ls → map linkOf after ≡ ms → (k : ℕ)
-    → enters (linkAt ls k .alignment) (linkAt ms k .alignment) ≡ enters (alignmentAt before k) (alignmentAt after k)
-enters-seen before after ls ms e f k =
-    (λ i. enters (linkAt (sym e i) k .alignment) (linkAt (sym f i) k .alignment))
-    ∙ (λ i. enters (link-at before k i .alignment) (link-at after k i .alignment))
-    ∙ enters-past (alignmentAt before k) (alignmentAt after k)
-
 place-links : (s : Server) (c : Settings) (e : Event) → s .settings ≡ c → counts e (codeOf s e) ≡ true → (p : Place) → placeOf e ≡ p
     → map linkOf (slotsAfter p e s) ≡ linksAfter p e c (writtenAt s e) (map linkOf (s .slots))
 place-links s c e same h (inSlot k) at =

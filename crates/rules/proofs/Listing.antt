@@ -1,8 +1,7 @@
 -- The listing of document 01, evaluated.
 -- Assumes nothing.
-use Prim.Native.Nat.{ℕ, zero, suc}
 use mathlib.Core.Path.{_≡_, refl}
-use mathlib.Core.List.{List, [], _∷_}
+use mathlib.Core.List.{[], _∷_}
 use Rattle.protocol.specs.Checksum.{total}
 use Rattle.protocol.specs.Layouts.{recordOctets, recordsOctets, receiversOctets, mandatory, layout, packetOf}
 use Rattle.protocol.specs.Checks.{headCheck, elementCheck, elementsCheck, mandatoryCheck}

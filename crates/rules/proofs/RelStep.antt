@@ -5,7 +5,7 @@ use mathlib.Core.Bool.{Bool, true, false}
 use mathlib.Core.List.{List, [], _∷_}
 use Rattle.laws.specs.Tables.{none}
 use Rattle.rules.specs.Server.{Settings, Server, fresh}
-use Rattle.rules.specs.Events.{Event, codeOf, counts, acted, serverIf, step, itemOf, run, items, placeOf}
+use Rattle.rules.specs.Events.{Event, codeOf, counts, acted, serverIf, step, itemOf, run, items}
 use Rattle.rules.specs.History.{History, noteItem, addIf, add, historyFrom, noHistory}
 use Rattle.rules.proofs.Relation.{Inv, Rel}
 use Rattle.rules.proofs.LinkSim.{links-act}

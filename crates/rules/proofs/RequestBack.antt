@@ -8,18 +8,16 @@ use native.Mathlib.Omega.{arith}
 use lib.ListN.{length, drop}
 use mir.Syntax.{w32}
 use mir.Val.{SFits}
-use mir.ValLaws.{toZ-ofZ}
 use Rattle.laws.specs.Lists.{All}
 use Rattle.protocol.specs.declared.CaNumber.{CaNumber}
 use Rattle.protocol.specs.declared.CaFlags.{CaFlags}
 use Rattle.protocol.specs.Sizes.{idLength}
 use Rattle.protocol.specs.Fields.{octet, field2}
-use Rattle.protocol.specs.Numbers.{csa, csaOf}
 use Rattle.protocol.specs.Messages.{CsaRecord, Message, ca, csuRequest, csuReply, csus}
 use Rattle.protocol.specs.Layouts.{zeros, countOf, commonHead, recordsOctets, mandatory, layout, packetOf}
 use Rattle.protocol.specs.Checksum.{checksumOf}
-use Rattle.protocol.specs.Reading.{recordAt, recordsAt}
-use Rattle.protocol.proofs.RecordBack.{Shown, shown}
+use Rattle.protocol.specs.Reading.{recordsAt}
+use Rattle.protocol.proofs.RecordBack.{Shown, shown, record-read}
 use Rattle.protocol.proofs.HeadBack.{Common, common}
 use Rattle.protocol.proofs.Lengths.{layout-size}
 use Rattle.rules.specs.Server.{Settings, Slot}
@@ -32,24 +30,13 @@ pub record Readable (r : CsaRecord) : Type 0 where
   pub originator-size : length (r .originator) ≡ idLength
   pub number-fits : SFits w32 (r .number .0)
 
-one-back : (p : List ℕ) (at : ℕ) (r : CsaRecord) (rest : List ℕ) → Shown idLength p at r rest → Readable r → recordAt idLength p at ≡ r
-unfolding recordAt
-one-back p at r rest s good = λ i. record {
-  hops = s .hops-at i;
-  null = s .null-at i;
-  number = (ap csaOf (s .bits-at) ∙ ap csa (toZ-ofZ w32 (r .number .0) (good .number-fits))) i;
-  key = s .key-at i;
-  originator = s .originator-at i;
-  payload = s .payload-at i;
-}
-
 records-back : (p : List ℕ) (rs : List CsaRecord) (at : ℕ) → drop at p ≡ recordsOctets [] rs → at ≤ length p → All Readable rs
     → recordsAt idLength p (length rs) at ≡ rs
 unfolding recordsOctets recordsAt
 records-back p [] at e h good = refl
 records-back p (r ∷ rs) at e h good =
     let s : Shown idLength p at r (recordsOctets [] rs) = shown idLength p at 0 r _ e h (omega arith) (good .0 .originator-size) in
-    λ i. one-back p at r _ s (good .0) i ∷ records-back p rs (at + field2 p (at + 2)) (s .rest-at) (s .room) (good .1) i
+    λ i. record-read idLength p at r _ s (good .0 .number-fits) i ∷ records-back p rs (at + field2 p (at + 2)) (s .rest-at) (s .room) (good .1) i
 
 pub is-request : (c : Settings) (x : Slot) (rs : List CsaRecord) → isRequest (packetOf (toPeer c x (csuRequest rs))) ≡ true
 unfolding packetOf layout

@@ -2,12 +2,14 @@
 -- Assumes nothing.
 use Prim.Native.Nat.{ℕ}
 use mathlib.Core.Path.{_≡_, refl, sym, ap, _∙_}
-use mathlib.Core.Bool.{Bool, true, false, _&&_, false≢true}
+use mathlib.Core.Bool.{Bool, true, false}
 use mathlib.Core.List.{List, [], _∷_}
 use Rattle.laws.specs.Choice.{pick}
 use Rattle.laws.specs.Lists.{All}
-use Rattle.laws.specs.Tables.{on, has, change, update}
-use Rattle.laws.proofs.Tables.{and-true, full, has-false, one-tells}
+use Rattle.laws.specs.Tables.{has, change, update}
+use Rattle.laws.proofs.Tables.{full}
+use Rattle.laws.proofs.Bools.{and-true, and-tells}
+use Rattle.laws.proofs.Cells.{has-false, one-tells}
 use Rattle.protocol.specs.declared.CsaNumber.{CsaNumber}
 use Rattle.protocol.specs.Numbers.{newer, spent}
 use Rattle.protocol.specs.Messages.{CsaRecord}
@@ -21,29 +23,14 @@ use Rattle.rules.specs.History.{Known, nowHeld, isOf, admit, opened, arr
 use Rattle.rules.specs.Demand3.{rowOf}
 use Rattle.rules.proofs.Relation.{Alive, RowsInv, Sim}
 use Rattle.rules.proofs.RowsKeep.{SizedRecord, rows-by, rows-replied}
-use Rattle.rules.proofs.RowSim.{answered-of, opened-of, created-of, changed-of, purging-of, merged, arrived-of, sim-holds, sim-change, sim-admit, sim-pick, unmarked-free}
+use Rattle.rules.proofs.RowSim.{answered-of, opened-of, created-of, changed-of, purging-of, merged, arrived-of, sim-holds, sim-change, sim-admit, sim-pick}
+use Rattle.rules.proofs.Entries.{Alike, alike-unmarked, alike-owed, alike-replied, alike-renewed, alike-changed, alike-purged}
+use Rattle.rules.proofs.RowGrows.{stale-holds}
 
 -- ---- the records of a CSU Request
--- of two tests the first holds: what both say, the second says
-and-tells : (a b c : Bool) → a ≡ true → (a && b) ≡ c → b ≡ c
-and-tells true b c h e = e
-and-tells false b c h e = absurd (false≢true h)
-
-stale-holds : (e : Entry) (n : CsaNumber) (x : Row) → outOfDate e n x ≡ true → holds e x ≡ true
-stale-holds e n free h = h
-stale-holds e n (used f v m) h = and-true (sameEntry f e) (newer n (v .number)) h .0
-
 ahead-holds : (e : Entry) (n : CsaNumber) (x : Row) → ahead e n x ≡ true → holds e x ≡ true
 ahead-holds e n free h = h
 ahead-holds e n (used f v m) h = and-true (sameEntry f e) (newer (v .number) n) h .0
-
-renewed-free : (live : ℕ → Bool) (k : ℕ) (r : CsaRecord) (x : Row) → isFree (renewed live k r x) ≡ isFree x
-renewed-free live k r free = refl
-renewed-free live k r (used e v m) = refl
-
-owed-free : (k : ℕ) (x : Row) → isFree (owed k x) ≡ isFree x
-owed-free k free = refl
-owed-free k (used e v m) = refl
 
 module _ (live : ℕ → Bool) (k : ℕ) (r : CsaRecord) (rows : List Row) (es : List Known) (v : RowsInv live rows) (s : Sim rows es) where
   -- what is known of a row: its marks, and the two tests if it holds the entry
@@ -64,7 +51,7 @@ module _ (live : ℕ → Bool) (k : ℕ) (r : CsaRecord) (rows : List Row) (es :
   )
 
   -- the row that holds the entry is renewed, owed or unmarked as the tests say
-  sim-arrived : (f : Row → Row) → ((x : Row) → isFree (f x) ≡ isFree x) → (a b : Bool) → ((x : Row) → f x ≡ merged live k r a b x)
+  sim-arrived : (f : Row → Row) → ((x : Row) → Alike x (f x)) → (a b : Bool) → ((x : Row) → f x ≡ merged live k r a b x)
       → has (outOfDate (entryOf r) (r .number)) rows ≡ a → has (ahead (entryOf r) (r .number)) rows ≡ b
       → Sim (change (holds (entryOf r)) f rows) (update (isOf (entryOf r)) (arrived live k r) es)
   sim-arrived f keeps a b is p q = sim-change (entryOf r) (Told a b) f (arrived live k r) keeps of rows es (told a b p q) (v .once) s where
@@ -85,9 +72,9 @@ module _ (live : ℕ → Bool) (k : ℕ) (r : CsaRecord) (rows : List Row) (es :
       → Sim (rowsBy (pick n null (pick h (pick o stored (pick a older equal)) (pick p purgeAbsent (pick f stored noRow)))) live k r rows)
       (pick n es (pick h (update (isOf (entryOf r)) (arrived live k r) es) (pick p es (admit (opened live k r) es))))
   noted-by true h o a p f eh eo ea ef = s
-  noted-by false true true a p f eh eo ea ef = rw eh (sim-arrived (renewed live k r) (renewed-free live k r) true a (λ x. refl) eo ea)
-  noted-by false true false true p f eh eo ea ef = sim-arrived (owed k) (owed-free k) false true (λ x. refl) eo ea
-  noted-by false true false false p f eh eo ea ef = sim-arrived (unmarked k) (unmarked-free k) false false (λ x. refl) eo ea
+  noted-by false true true a p f eh eo ea ef = rw eh (sim-arrived (renewed live k r) (alike-renewed live k r) true a (λ x. refl) eo ea)
+  noted-by false true false true p f eh eo ea ef = sim-arrived (owed k) (alike-owed k) false true (λ x. refl) eo ea
+  noted-by false true false false p f eh eo ea ef = sim-arrived (unmarked k) (alike-unmarked k) false false (λ x. refl) eo ea
   noted-by false false o a true f eh eo ea ef = s
   noted-by false false o a false true eh eo ea ef = rw eh sim-opened
   noted-by false false o a false false eh eo ea ef = rw (full isFree (λ _. rowFor live k r) rows ef) at sim-opened
@@ -119,36 +106,20 @@ pub sim-updated : (live : ℕ → Bool) (k : ℕ) → live k ≡ true → (rs : 
 sim-updated live k l rs z rows qs es v s = sim-all-noted live k l rs z (record { rows = rows; requests = qs; replies = [] }) es v s
 
 -- ---- the records of a CSU Reply
-replied-free : (k : ℕ) (n : CsaNumber) (x : Row) → isFree (replied k n x) ≡ isFree x
-replied-free k n free = refl
-replied-free k n (used e v m) = by (newer n (v .number)) (newer (v .number) n) where
-  by : (a b : Bool) → isFree (pick a (used e v m) (pick b (used e v m) (used e v (on k false m)))) ≡ false
-  by true b = refl
-  by false true = refl
-  by false false = refl
-
 pub sim-answered : (live : ℕ → Bool) (k : ℕ) (rs : List CsaRecord) (rows : List Row) (es : List Known) → RowsInv live rows → Sim rows es
     → Sim (allReplied k rs rows) (allAnswered k rs es)
 sim-answered live k [] rows es v s = s
 sim-answered live k (r ∷ rs) rows es v s =
     sim-answered live k rs (change (holds (entryOf r)) (replied k (r .number)) rows) (update (isOf (entryOf r)) (answered k r) es)
     (rows-replied live k r rows v)
-    (sim-change (entryOf r) (λ _. Unit {0}) (replied k (r .number)) (answered k r) (replied-free k (r .number)) (λ x _ _. answered-of k r x) rows es (λ _. tt) (v .once) s)
+    (sim-change (entryOf r) (λ _. Unit {0}) (replied k (r .number)) (answered k r) (alike-replied k (r .number)) (λ x _ _. answered-of k r x) rows es (λ _. tt) (v .once) s)
 
 -- ---- changes of ours
-changed-free : (live : ℕ → Bool) (p : List ℕ) (x : Row) → isFree (changedRow live p x) ≡ isFree x
-changed-free live p free = refl
-changed-free live p (used e v m) = refl
-
-purged-free : (live : ℕ → Bool) (x : Row) → isFree (purgedRow live x) ≡ isFree x
-purged-free live free = refl
-purged-free live (used e v m) = refl
-
 module _ (live : ℕ → Bool) (e : Entry) (rows : List Row) (es : List Known) (v : RowsInv live rows) (s : Sim rows es) where
   -- a set of an entry that has a row, and a withdrawal
   pub sim-withdraw : (p : List ℕ) → has (holdsSpent e) rows ≡ false → Sim (change (holds e) (changedRow live p) rows) (update (isOf e) (changed live p) es)
   sim-withdraw p n =
-      sim-change e (λ x. Alive live x × (holdsSpent e x ≡ false)) (changedRow live p) (changed live p) (changed-free live p)
+      sim-change e (λ x. Alive live x × (holdsSpent e x ≡ false)) (changedRow live p) (changed live p) (alike-changed live p)
       (λ x q h. changed-of live p x (q .0) (and-tells (isOf e x) (spent (nowHeld x .number)) false h (q .1)))
       rows es (λ i. (v .alive i, has-false free (holdsSpent e) refl rows n i)) (v .once) s
 
@@ -161,6 +132,6 @@ module _ (live : ℕ → Bool) (e : Entry) (rows : List Row) (es : List Known) (
 
   pub sim-purge : has (holdsPurged e) rows ≡ false → Sim (purgeRows live e rows) (update (isOf e) (purging live) es)
   sim-purge n =
-      sim-change e (λ x. Alive live x × (holdsPurged e x ≡ false)) (purgedRow live) (purging live) (purged-free live)
+      sim-change e (λ x. Alive live x × (holdsPurged e x ≡ false)) (purgedRow live) (purging live) (alike-purged live)
       (λ x q h. purging-of live x (q .0) (and-tells (isOf e x) (isPurged (nowHeld x .number)) false h (q .1)))
       rows es (λ i. (v .alive i, has-false free (holdsPurged e) refl rows n i)) (v .once) s

@@ -12,7 +12,9 @@ use lib.ListN.{length, length-map, List·getD-map}
 use borrow.Author.Tests.{eqb-true}
 use Rattle.laws.specs.Choice.{pick}
 use Rattle.laws.specs.Tables.{on, has, change}
-use Rattle.laws.proofs.Changes.{and-true, has-false, has-true, Changed, nowhere, atCell, changed, length-change, each-change}
+use Rattle.laws.proofs.Bools.{and-true, pick-of}
+use Rattle.laws.proofs.Cells.{has-false, Changed, nowhere, atCell, changed, length-change, each-change, one-tells}
+use Rattle.laws.proofs.Integers.{le-of-lt, ≤ℤ-trans, le-greatest}
 use Rattle.protocol.specs.declared.CsaNumber.{CsaNumber}
 use Rattle.protocol.specs.Sizes.{payloadMost}
 use Rattle.protocol.specs.Numbers.{newer}
@@ -22,8 +24,13 @@ use Rattle.rules.specs.Rows.{unmarked, spread, filled}
 use Rattle.rules.specs.Requests.{entryOf}
 use Rattle.rules.specs.Updates.{changedRow, purgedRow, outOfDate, valueOf, renewed, owed, replied}
 use Rattle.rules.proofs.Relation.{Alive, SizedValue, Sized, RowsInv}
-use Rattle.rules.proofs.EntryLaws.{entry-eq}
-use Rattle.rules.proofs.CsaOrder.{le-of-lt, ≤ℤ-trans, le-purged, stepped-good}
+use Rattle.rules.proofs.CsaOrder.{stepped-good}
+use Rattle.rules.proofs.Entries.{entry-true}
+
+-- a row that is out of date for an entry holds it
+pub stale-holds : (e : Entry) (n : CsaNumber) (x : Row) → outOfDate e n x ≡ true → holds e x ≡ true
+stale-holds e n free h = h
+stale-holds e n (used f v m) h = and-true (sameEntry f e) (newer n (v .number)) h .0
 
 -- ---- one row before and after
 -- the entry is still there, and its number has not fallen
@@ -76,22 +83,18 @@ module _ (live : ℕ → Bool) where
   good-unmarked k free = good-refl free
   good-unmarked k (used e v m) = good-off k e v m
 
-  owed-by : (k : ℕ) → live k ≡ true → (e : Entry) (v : Value) (m : ℕ → Bool) (b : Bool) → Good live (used e v m) (used e v (pick b (on k true m) m))
-  owed-by k l e v m true = record { keep = keep-refl (used e v m); same = λ f. refl; alive = λ h j q. on-by k m l j (eqb j k) refl (h j) q; sized = λ h. h }
-  owed-by k l e v m false = good-refl (used e v m)
-
   pub good-owed : (k : ℕ) → live k ≡ true → (x : Row) → Good live x (owed k x)
   good-owed k l free = good-refl free
-  good-owed k l (used e v m) = owed-by k l e v m (ltb 0 (v .remaining))
-
-  replied-by : (k : ℕ) (e : Entry) (v : Value) (m : ℕ → Bool) (a b : Bool) → Good live (used e v m) (pick a (used e v m) (pick b (used e v m) (used e v (on k false m))))
-  replied-by k e v m true b = good-refl (used e v m)
-  replied-by k e v m false true = good-refl (used e v m)
-  replied-by k e v m false false = good-off k e v m
+  good-owed k l (used e v m) = pick-of (λ (n : ℕ → Bool). Good live (used e v m) (used e v n)) (ltb 0 (v .remaining)) (on k true m) m
+      (record { keep = keep-refl (used e v m); same = λ f. refl; alive = λ h j q. on-by k m l j (eqb j k) refl (h j) q; sized = λ h. h })
+      (good-refl (used e v m))
 
   pub good-replied : (k : ℕ) (n : CsaNumber) (x : Row) → Good live x (replied k n x)
   good-replied k n free = good-refl free
-  good-replied k n (used e v m) = replied-by k e v m (newer n (v .number)) (newer (v .number) n)
+  good-replied k n (used e v m) =
+      let x : Row = used e v m in
+      pick-of (Good live x) (newer n (v .number)) x _ (good-refl x)
+      (pick-of (Good live x) (newer (v .number) n) x (used e v (on k false m)) (good-refl x) (good-off k e v m))
 
   -- ---- values
   pub good-renewed : (k : ℕ) (r : CsaRecord) → SizedValue (valueOf r) → (x : Row) → outOfDate (entryOf r) (r .number) x ≡ true → Good live x (renewed live k r x)
@@ -119,7 +122,7 @@ module _ (live : ℕ → Bool) where
   good-purged free s = good-refl free
   good-purged (used e v m) s =
       record {
-        keep = (refl, le-purged (v .number .0) (s .1 .number-fits));
+        keep = (refl, le-greatest (v .number .0) (s .1 .number-fits));
         same = λ f. refl;
         alive = λ _ j q. q;
         sized = λ _. (s .0, record { number-fits = record { sfits = omega arith }; payload-fits = omega arith });
@@ -157,7 +160,7 @@ module _ (live : ℕ → Bool) where
     -- a free row is taken by an entry that had none
     module _ (e : Entry) (w : Value) (m : ℕ → Bool) (absent : has (holds e) a ≡ false) (ok : Alive live (used e w m)) (fits : Sized (used e w m)) where
       clash : (i : ℕ) (f : Entry) → sameEntry e f ≡ true → holds f (rowAt a i) ≡ true → ⊥
-      clash i f q h = false≢true (sym (has-false free (holds e) refl a absent i) ∙ rw (sym (entry-eq e f q)) at h)
+      clash i f q h = false≢true (sym (has-false free (holds e) refl a absent i) ∙ rw (sym (entry-true e f q)) at h)
 
       grows-at : (b : List Row) → length b ≡ length a → Changed free isFree (λ _. used e w m) a b → Grows live a b
       grows-at b len (nowhere h) = grows-each b len (λ i. rw (h i) (good-refl live (rowAt a i)))
@@ -193,14 +196,8 @@ module _ (live : ℕ → Bool) where
       grows-filled = grows-at (filled (used e w m) a) (length-change free isFree (λ _. used e w m) a) (changed free isFree (λ _. used e w m) a)
 
     -- the row of an entry is the one that is out of date
-    behind-number : (e : Entry) (n : CsaNumber) (x : Row) → outOfDate e n x ≡ true → holds e x ≡ true
-    behind-number e n free h = absurd (false≢true h)
-    behind-number e n (used f w m) h = and-true (sameEntry f e) (newer n (w .number)) h .0
-
     pub outdated : (e : Entry) (n : CsaNumber) → has (outOfDate e n) a ≡ true → (i : ℕ) → holds e (rowAt a i) ≡ true → outOfDate e n (rowAt a i) ≡ true
-    outdated e n h i q =
-        let r = has-true free (outOfDate e n) a h in
-        rw (v .once e i (r .0) q (behind-number e n (rowAt a (r .0)) (r .1))) (r .1)
+    outdated e n h i q = one-tells free (holds e) (outOfDate e n) (stale-holds e n) refl a (v .once e) i q ∙ h
 
     pub grows-unmarked : (k : ℕ) → Grows live a (map (unmarked k) a)
     grows-unmarked k = grows-each (map (unmarked k) a) (length-map a (unmarked k)) (λ i. rw (List·getD-map (unmarked k) a i free) (good-unmarked live k (rowAt a i)))

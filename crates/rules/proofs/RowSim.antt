@@ -1,22 +1,19 @@
 -- The used rows are the history's entries: each change of the rows is that of the entries.
 -- Assumes nothing.
-use Prim.Native.Nat.{ℕ, zero, suc, _-_}
+use Prim.Native.Nat.{ℕ, _-_}
 use mathlib.Core.Path.{_≡_, refl, sym, ap, _∙_, fun-ext}
 use mathlib.Core.Bool.{Bool, true, false, not, _&&_, _||_, false≢true}
 use mathlib.Core.List.{List, [], _∷_, map}
-use native.Mathlib.Omega.{arith}
 use lib.Dec.{eqb, ltb}
-use lib.IntN.{ℤ, pos, negsuc, sucℤ, _+ℤ_, +ℤ-one}
 use lib.ListN.{length, length-map}
-use lib.Signed.{ltZ, leZ}
-use borrow.Author.Tests.{lt-ltb, leb-false}
 use Rattle.laws.specs.Choice.{pick}
 use Rattle.laws.specs.Lists.{All}
 use Rattle.laws.specs.Tables.{on, has, change, update, without, skip, trans}
-use Rattle.laws.proofs.Tables.{perm-map, perm-all, perm-has, perm-length, perm-without, all-cells, all-map, map-map, map-map-all, has-map, has-without, without-same, without-more, room, full, fill, change-update}
-use Rattle.protocol.specs.declared.CsaNumber.{CsaNumber}
-use Rattle.protocol.specs.declared.Step.the-variants.{Number, Spent}
-use Rattle.protocol.specs.Numbers.{csa, newer, nextCsa, spent, firstNumber, purged}
+use Rattle.laws.proofs.Tables.{all-map, map-map, map-map-all, has-map, has-without, without-same, without-more, room, full}
+use Rattle.laws.proofs.Perms.{perm-map, perm-all, perm-has, perm-length, perm-without, fill}
+use Rattle.laws.proofs.Cells.{all-cells, change-update}
+use Rattle.laws.proofs.Bools.{pick-of, pick-ap}
+use Rattle.protocol.specs.Numbers.{newer, nextCsa, spent, firstNumber, purged}
 use Rattle.protocol.specs.Messages.{CsaRecord}
 use Rattle.rules.specs.Server.{rowsMost, Entry, Value, Row, free, used, isFree, holds, rowAt}
 use Rattle.rules.specs.Rows.{isPurged, unmarked, spread, filled, sweptRow, swept, clearedIf}
@@ -25,28 +22,8 @@ use Rattle.rules.specs.Updates.{hopsMost, value, stepped, changedRow, ne
 use Rattle.rules.specs.History.{Act, put, take, waiting, Known, nowHeld, waitsAt, act, noActs, ownActs, storedActs, isOf, isDone, admit, opened, arrived, answered, changed, created, purging, left, leftIf}
 use Rattle.rules.specs.Demand3.{rowOf, Once}
 use Rattle.rules.proofs.Relation.{Alive, Sim}
-
--- ---- numbers
-lt-suc : (n : ℤ) → ltZ n (sucℤ n) ≡ true
-lt-suc (pos n) = lt-ltb n (suc n) (omega arith)
-lt-suc (negsuc zero) = refl
-lt-suc (negsuc (suc n)) = lt-ltb n (suc n) (omega arith)
-
-not-le : (a b : ℤ) → leZ a b ≡ false → ltZ b a ≡ true
-not-le (pos a) (pos b) e = lt-ltb b a (leb-false a b e)
-not-le (pos a) (negsuc b) e = refl
-not-le (negsuc a) (pos b) e = absurd (false≢true (sym e))
-not-le (negsuc a) (negsuc b) e = lt-ltb a b (leb-false b a e)
-
-stepped-by : (n : CsaNumber) (b : Bool) → b ≡ false → newer (stepped n (pick b Spent (Number (csa (n .0 +ℤ pos 1))))) n ≡ true
-stepped-by n b h = rw (h, +ℤ-one (n .0)) (lt-suc (n .0))
-
--- a change of ours is newer, until the number is spent
-pub steps-up : (n : CsaNumber) → spent n ≡ false → newer (stepped n (nextCsa n)) n ≡ true
-steps-up n h = stepped-by n (spent n) h
-
-pub purges-up : (n : CsaNumber) → isPurged n ≡ false → newer purged n ≡ true
-purges-up n h = not-le (purged .0) (n .0) h
+use Rattle.rules.proofs.CsaOrder.{steps-up, purges-up}
+use Rattle.rules.proofs.Entries.{Alike, alike-unmarked}
 
 -- ---- the marks are the waits
 -- a slot that is not live does not wait
@@ -79,15 +56,11 @@ stored-by false b c l h = refl
 stored-waits : (live : ℕ → Bool) (k n : ℕ) (acts : ℕ → List Act) → Waits live acts → waitsAt (storedActs live k n acts) ≡ spread live k n
 stored-waits live k n acts h = fun-ext (λ j. stored-by (ltb 0 n) (live j) (eqb j k) (acts j) (h j))
 
-act-by : (b : Bool) (l m : List Act) → waiting (pick b l m) ≡ pick b (waiting l) (waiting m)
-act-by true l m = refl
-act-by false l m = refl
-
 put-waits : (k : ℕ) (acts : ℕ → List Act) → waitsAt (act k put acts) ≡ on k true (waitsAt acts)
-put-waits k acts = fun-ext (λ j. act-by (eqb j k) (put ∷ acts k) (acts j))
+put-waits k acts = fun-ext (λ j. pick-ap waiting (eqb j k) (put ∷ acts k) (acts j))
 
 take-waits : (k : ℕ) (acts : ℕ → List Act) → waitsAt (act k take acts) ≡ on k false (waitsAt acts)
-take-waits k acts = fun-ext (λ j. act-by (eqb j k) (take ∷ acts k) (acts j))
+take-waits k acts = fun-ext (λ j. pick-ap waiting (eqb j k) (take ∷ acts k) (acts j))
 
 -- ---- each change of a row is that of its entry
 left-of : (k : ℕ) (x : Known) → unmarked k (rowOf x) ≡ rowOf (left k x)
@@ -149,18 +122,18 @@ module _ (live : ℕ → Bool) where
       (ltb 0 (nowHeld x .remaining))
 
 -- ---- what the relation tells
-free-holds : (e : Entry) (x : Row) → isFree x ≡ true → holds e x ≡ false
-free-holds e free h = refl
-free-holds e (used f v m) h = absurd (false≢true h)
+free-fails : (p : Row → Bool) → p free ≡ false → (x : Row) → isFree x ≡ true → p x ≡ false
+free-fails p z free h = z
+free-fails p z (used e v m) h = absurd (false≢true h)
 
-pub sim-has : (p : Row → Bool) → ((x : Row) → isFree x ≡ true → p x ≡ false) → (rows : List Row) (es : List Known) → Sim rows es
-    → has p rows ≡ has (λ x. p (rowOf x)) es
-sim-has p h rows es s =
-    sym (has-without isFree p h rows) ∙ perm-has p s ∙ has-map rowOf (λ x. p (rowOf x)) p (λ x. refl) es
+-- of a test that a free row does not pass
+pub sim-has : (p : Row → Bool) → p free ≡ false → (rows : List Row) (es : List Known) → Sim rows es → has p rows ≡ has (λ x. p (rowOf x)) es
+sim-has p z rows es s =
+    sym (has-without isFree p (free-fails p z) rows) ∙ perm-has p s ∙ has-map rowOf (λ x. p (rowOf x)) p (λ x. refl) es
 
 -- an entry has a row
 pub sim-holds : (e : Entry) (rows : List Row) (es : List Known) → Sim rows es → has (holds e) rows ≡ has (isOf e) es
-sim-holds e rows es s = sim-has (holds e) (free-holds e) rows es s
+sim-holds e rows es s = sim-has (holds e) refl rows es s
 
 -- what holds of every row holds of every entry's row
 pub sim-all : (Q : Row → Type 0) (rows : List Row) (es : List Known) → ((i : ℕ) → Q (rowAt rows i)) → Sim rows es → All (λ x. Q (rowOf x)) es
@@ -172,12 +145,8 @@ sim-room rows es n s = room isFree rows ∙ rw (n, perm-length s, length-map es 
 
 -- ---- what keeps the relation
 -- the row of e changes as the entry does
-module _ (e : Entry) (Q : Row → Type 0) (f : Row → Row) (g : Known → Known) (keeps : (x : Row) → isFree (f x) ≡ isFree x)
+module _ (e : Entry) (Q : Row → Type 0) (f : Row → Row) (g : Known → Known) (keeps : (x : Row) → Alike x (f x))
     (of : (x : Known) → Q (rowOf x) → isOf e x ≡ true → f (rowOf x) ≡ rowOf (g x)) where
-  one-free : (x : Row) (b : Bool) → isFree (pick b (f x) x) ≡ isFree x
-  one-free x true = keeps x
-  one-free x false = refl
-
   one-of : (x : Known) (b : Bool) → isOf e x ≡ b → Q (rowOf x) → pick b (f (rowOf x)) (rowOf x) ≡ rowOf (pick b (g x) x)
   one-of x true h q = of x q h
   one-of x false h q = refl
@@ -187,7 +156,7 @@ module _ (e : Entry) (Q : Row → Type 0) (f : Row → Row) (g : Known → Known
   sim-change rows es q o s =
       rw (
         change-update free (holds e) f rows (o e),
-        without-same isFree (λ x. pick (holds e x) (f x) x) (λ x. one-free x (holds e x)) rows,
+        without-same isFree (λ x. pick (holds e x) (f x) x) (λ x. pick-of (λ (y : Row). isFree y ≡ isFree x) (holds e x) (f x) x (keeps x .frees) refl) rows,
         ← (map-map-all rowOf (λ x. Q (rowOf x)) (λ x. pick (isOf e x) (g x) x) (λ x. pick (holds e x) (f x) x)
             (λ x m. one-of x (isOf e x) refl m) es (sim-all Q rows es q s)),
       ) (perm-map (λ x. pick (holds e x) (f x) x) s)
@@ -206,13 +175,9 @@ sim-pick true rows rows′ es es′ s t = s
 sim-pick false rows rows′ es es′ s t = t
 
 -- ---- a slot left, and the end of an event
-pub unmarked-free : (k : ℕ) (x : Row) → isFree (unmarked k x) ≡ isFree x
-unmarked-free k free = refl
-unmarked-free k (used e v m) = refl
-
 pub sim-left : (k : ℕ) (rows : List Row) (es : List Known) → Sim rows es → Sim (map (unmarked k) rows) (map (left k) es)
 sim-left k rows es s =
-    rw (without-same isFree (unmarked k) (unmarked-free k) rows, ← (map-map rowOf (left k) (unmarked k) (left-of k) es))
+    rw (without-same isFree (unmarked k) (λ x. alike-unmarked k x .frees) rows, ← (map-map rowOf (left k) (unmarked k) (left-of k) es))
     (perm-map (unmarked k) s)
 
 pub sim-left-if : (b : Bool) (k : ℕ) (rows : List Row) (es : List Known) → Sim rows es → Sim (clearedIf b k rows) (leftIf b k es)

@@ -1,31 +1,31 @@
 -- The rows after each record of a CSU Request or CSU Reply, and after each change of ours.
 -- Assumes nothing.
-use Prim.Native.Nat.{ℕ, zero, suc, _+_, _-_, _≤_}
+use Prim.Native.Nat.{ℕ, _+_, _-_, _≤_}
 use mathlib.Core.Path.{_≡_, refl, ap, _∙_}
 use mathlib.Core.Bool.{Bool, true, false}
 use mathlib.Core.List.{List, [], _∷_}
 use native.Mathlib.Omega.{arith}
 use lib.ListN.{length}
 use Rattle.laws.specs.Choice.{pick}
-use Rattle.laws.specs.Lists.{part, All}
+use Rattle.laws.specs.Lists.{All}
 use Rattle.laws.specs.Tables.{has, change}
+use Rattle.laws.proofs.Integers.{toZ-any}
 use Rattle.protocol.specs.declared.Kind.{Kind}
 use Rattle.protocol.specs.declared.Kind.the-variants.{Ca, CsuRequest, CsuReply, Csus, Hello}
 use Rattle.protocol.specs.declared.Checked.the-variants.{Fine}
-use Rattle.protocol.specs.Sizes.{idLength, payloadMost, recordSize}
-use Rattle.protocol.specs.Fields.{octet, field2, field4}
+use Rattle.protocol.specs.Sizes.{idLength, payloadMost}
+use Rattle.protocol.specs.Fields.{octet, field4}
 use Rattle.protocol.specs.Messages.{CsaRecord, Message, csuRequest}
-use Rattle.protocol.specs.Checks.{isHello, summarySize, payloadSize, countAt, elementsAt, elementsCheck}
+use Rattle.protocol.specs.Checks.{countAt, elementsAt, elementsCheck}
 use Rattle.protocol.specs.Reading.{kindOf, recordAt, recordsAt, bodyAt, messageAt, message, readPacket}
-use Rattle.protocol.proofs.Told.{RecordTold, next-record, told}
+use Rattle.protocol.proofs.Told.{RecordTold, told, each-record}
 use Rattle.protocol.proofs.Codes.{read-as}
-use Rattle.protocol.proofs.Peel.{part-length}
+use Rattle.protocol.proofs.RecordExact.{key-length, originator-length, payload-length}
 use Rattle.rules.specs.Server.{Entry, Row, isFree, holds, rowAt}
 use Rattle.rules.specs.Rows.{isPurged, unmarked, filled}
 use Rattle.rules.specs.Requests.{entryOf}
 use Rattle.rules.specs.Updates.{changedRow, newRow, setRows, withdrawRows, purgedRow, purgeRows, null, purgeAbsent, full, stored, equal, older, outOfDate, ahead, updateRule, valueOf, renewed, owed, rowsBy, Updated, byRule, allUpdated, replied, allReplied}
 use Rattle.rules.proofs.Relation.{SizedEntry, SizedValue, RowsInv}
-use Rattle.rules.proofs.CsaOrder.{toZ-any}
 use Rattle.rules.proofs.RowGrows.{spread-live, good-unmarked, good-owed, good-replied, good-renewed, good-changed, good-purged, Grows, grows-refl, grows-trans, grows-change, grows-filled, outdated}
 
 abbrev pub SizedRecord : CsaRecord → Type 0
@@ -102,33 +102,18 @@ module _ (live : ℕ → Bool) (e : Entry) (rows : List Row) (v : RowsInv live r
   grows-purge = grows-change live rows v (holds e) (purgedRow live) (λ i _. good-purged live (rowAt rows i) (v .sized i))
 
 -- ---- the records that a packet was read to have
-module _ (k : Kind) (p : List ℕ) where
-  sized-at : (r : ℕ) → RecordTold idLength k p r → SizedRecord (recordAt idLength p r)
-  unfolding recordAt
-  sized-at r t =
-      let e = t .ends in
-      let g = t .covers in
-      let key : length (part p (r + recordSize) (octet p (r + 4))) ≡ octet p (r + 4) = part-length p (r + recordSize) (octet p (r + 4)) (omega arith) in
-      let pay : length (part p (r + summarySize idLength p r) (payloadSize idLength p r)) ≡ payloadSize idLength p r =
-      part-length p (r + summarySize idLength p r) (payloadSize idLength p r) (omega arith) in (
-        record {
-          some-key = rw key (t .some-key);
-          key-fits = rw key (t .key-fits);
-          originator = part-length p (r + recordSize + octet p (r + 4)) idLength (omega arith);
-        },
-        record { number-fits = toZ-any (field4 p (r + 8)); payload-fits = rw pay (t .payload-fits) },
-      )
-
-  all-sized : isHello k ≡ false → (n at : ℕ) → elementsCheck idLength k p n at ≡ Fine → All SizedRecord (recordsAt idLength p n at)
-  unfolding recordsAt
-  all-sized q zero at h = tt
-  all-sized q (suc n) at h =
-      let f = next-record idLength k p n at q h in
-      (sized-at at (f .0), all-sized q n (at + field2 p (at + 2)) (f .1))
+sized-at : (k : Kind) (p : List ℕ) (r : ℕ) → RecordTold idLength k p r → SizedRecord (recordAt idLength p r)
+unfolding recordAt
+sized-at k p r t =
+    let key = key-length idLength k p r t in
+    let pay = payload-length idLength k p r t in (
+      record { some-key = rw key (t .some-key); key-fits = rw key (t .key-fits); originator = originator-length idLength k p r t },
+      record { number-fits = toZ-any (field4 p (r + 8)); payload-fits = rw pay (t .payload-fits) },
+    )
 
 body-sized : (k : Kind) (p : List ℕ) (n at : ℕ) (rs : List CsaRecord) → elementsCheck idLength k p n at ≡ Fine → bodyAt idLength k p n at ≡ csuRequest rs → All SizedRecord rs
 body-sized Ca p n at rs h e = let z : _≡_ {A = ℕ} 0 1 = cc in absurd (omega arith)
-body-sized CsuRequest p n at rs h e = let q : recordsAt idLength p n at ≡ rs = cc in rw q at (all-sized CsuRequest p refl n at h)
+body-sized CsuRequest p n at rs h e = let q : recordsAt idLength p n at ≡ rs = cc in rw q at (each-record idLength CsuRequest p SizedRecord (sized-at CsuRequest p) refl n at h)
 body-sized CsuReply p n at rs h e = let z : _≡_ {A = ℕ} 0 1 = cc in absurd (omega arith)
 body-sized Csus p n at rs h e = let z : _≡_ {A = ℕ} 0 1 = cc in absurd (omega arith)
 body-sized Hello p n at rs h e = let z : _≡_ {A = ℕ} 0 1 = cc in absurd (omega arith)

@@ -2,32 +2,34 @@
 -- Assumes nothing.
 use Prim.Native.Nat.{ℕ, _%_}
 use mathlib.Core.Path.{_≡_, refl, ap, _∙_}
-use mathlib.Core.Bool.{Bool, true, false, not, _&&_, _||_, false≢true}
+use mathlib.Core.Bool.{Bool, true, false, _&&_, false≢true}
 use mathlib.Core.List.{List, [], _∷_, map}
-use lib.Dec.{eqb, ltb}
+use lib.Dec.{eqb}
 use lib.ListN.{length, take}
-use Rattle.laws.specs.Choice.{pick}
 use Rattle.laws.specs.Lists.{All}
 use Rattle.laws.specs.Tables.{without, In}
+use Rattle.laws.proofs.Perms.{perm-in}
+use Rattle.laws.proofs.Tables.{in-map}
+use Rattle.laws.proofs.Cells.{in-without}
+use Rattle.laws.proofs.Bools.{pick-of}
 use Rattle.protocol.specs.Sizes.{idLength}
 use Rattle.protocol.specs.Messages.{CsaRecord}
 use Rattle.protocol.specs.Layouts.{packetOf}
-use Rattle.protocol.specs.Answers.{firstCode}
-use Rattle.rules.specs.Server.{slotsMost, rowsMost, Settings, Row, free, used, isFree, waitsFor, Slot, Server, slotAt, rowAt}
+use Rattle.rules.specs.Server.{rowsMost, Settings, Row, free, used, isFree, waitsFor, Slot, Server, slotAt, rowAt}
 use Rattle.rules.specs.Links.{isPast, enters, checkMove}
 use Rattle.rules.specs.Rows.{nextWaiting, used1, rowsOf}
 use Rattle.rules.specs.Slots.{passed, emptied, withLink, withKept}
 use Rattle.rules.specs.Sent.{octetsOf}
 use Rattle.rules.specs.Poll.{Due, none, aHello, firstCa, keptCa, aCsus, anUpdate, caInterval, firstFlags, helloOf, firstCaOf, csusOf, requestRecord, heldRecord, updateOf, dueOf, sentBy, keptDropped, checked}
-use Rattle.rules.specs.Refusals.{early, noRoom, linkIsDown, pollCode}
+use Rattle.rules.specs.Refusals.{pollCode}
 use Rattle.rules.specs.Events.{poll, codeOf, sentIf, writtenAt, itemOf}
 use Rattle.rules.specs.History.{Known, waitsAt, History}
 use Rattle.rules.specs.Demand3.{rowOf, isRequest, requestIn, HeldAndWaiting}
 use Rattle.rules.proofs.Relation.{Sized, Inv, Sim, Rel}
-use Rattle.rules.proofs.WaitLaws.{perm-in, in-map, in-without}
 use Rattle.rules.proofs.TurnLaws.{next-passes}
 use Rattle.rules.proofs.RequestBack.{Readable, request-back, not-hello, not-ca, not-csus}
 use Rattle.rules.proofs.Kept.{KeptCa, Plain, plain-checked}
+use Rattle.rules.proofs.CodeTold.{poll-told}
 
 -- ---- the rows that wait are entries of the history
 module _ (k : ℕ) (rows : List Row) (es : List Known) (m : Sim rows es) where
@@ -64,29 +66,17 @@ update-back s v k y p =
     request-back (s .settings) y (rowsOf heldRecord (s .rows) js) (v .own) p (plain-all (s .rows) (v .rows .sized) js)
 
 -- ---- the slot that a poll looks at has the peer of the slot
-peer-moved : (x y : Slot) → (b : Bool) → x .peer ≡ y .peer → pick b x y .peer ≡ y .peer
-peer-moved x y true e = e
-peer-moved x y false e = refl
-
 pub peer-checked : (now : ℕ) (x : Slot) → keptDropped now (checked now x) .peer ≡ x .peer
 peer-checked now x =
     let l = checkMove now (x .link) in
     let c = checked now x in
-    peer-moved (withKept [] c) c (isPast (c .link .alignment) && passed caInterval (c .timers .ca) now) refl
-    ∙ peer-moved (emptied (withLink l x)) (withLink l x) (enters (x .link .alignment) (l .alignment)) refl
-
-used-by : (a b : Bool) (n : ℕ) → eqb (pick (not a || not b) 1 n) 0 ≡ true → b ≡ true
-used-by true true n e = refl
-used-by true false n e = absurd (false≢true e)
-used-by false b n e = absurd (false≢true e)
-
--- a poll that counts is of a slot in use
-pub poll-used : (s : Server) (k now room : ℕ) → eqb (pollCode s k now room) 0 ≡ true → slotAt s k .used ≡ true
-poll-used s k now room e = used-by (ltb k slotsMost) (slotAt s k .used) (firstCode (early s now ∷ noRoom room ∷ linkIsDown s k ∷ [])) e
+    let here : Slot → Type 0 = λ z. z .peer ≡ x .peer in
+    let h : here c = pick-of here (enters (x .link .alignment) (l .alignment)) (emptied (withLink l x)) (withLink l x) refl refl in
+    pick-of here (isPast (c .link .alignment) && passed caInterval (c .timers .ca) now) (withKept [] c) c h h
 
 pub peer-length : (s : Server) → Inv s → (k now room : ℕ) → eqb (pollCode s k now room) 0 ≡ true
     → length (keptDropped now (checked now (slotAt s k)) .peer) ≡ idLength
-peer-length s v k now room e = ap length (peer-checked now (slotAt s k)) ∙ v .peers k (poll-used s k now room e)
+peer-length s v k now room e = ap length (peer-checked now (slotAt s k)) ∙ v .peers k (poll-told s k now room e)
 
 -- ---- what a poll writes
 no-records : (P : CsaRecord → Type 0) (p : List ℕ) → isRequest p ≡ false → All P (requestIn p)

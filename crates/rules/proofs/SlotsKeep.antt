@@ -2,48 +2,34 @@
 -- Assumes nothing.
 use Prim.Native.Nat.{ℕ}
 use mathlib.Core.Path.{_≡_, refl, sym, ap, _∙_}
-use mathlib.Core.Bool.{Bool, true, false, not, _&&_, _||_, false≢true}
+use mathlib.Core.Bool.{Bool, true, false, _&&_, false≢true}
 use mathlib.Core.List.{List, []}
 use native.Mathlib.Decide.{ℕ-discrete}
-use lib.Dec.{eqb, ltb}
+use lib.Dec.{eqb}
 use lib.Seq.{getD-set-other}
 use lib.ListN.{length, getD, length-set, List·getD-map}
 use lib.ListN as lists
-use borrow.Author.Tests.{eqb-true, eqb-false, not-false}
+use borrow.Author.Tests.{eqb-false}
 use Rattle.laws.specs.Choice.{pick}
-use Rattle.laws.specs.Tables.{has, same}
-use Rattle.laws.proofs.Changes.{or-false, pick-of, each-set}
+use Rattle.laws.proofs.Bools.{pick-of}
+use Rattle.laws.proofs.Cells.{each-set}
 use Rattle.protocol.specs.declared.Alignment.{Alignment}
 use Rattle.protocol.specs.declared.Alignment.the-variants.{Down, Negotiate, Summarize, Update, Aligned}
 use Rattle.protocol.specs.declared.Link.{Link}
 use Rattle.protocol.specs.Sizes.{idLength}
 use Rattle.protocol.specs.Messages.{Message, Body, ca, csuRequest, csuReply, csus, hello}
 use Rattle.protocol.specs.Reading.{Reading, refused, malformed, message, readPacket}
-use Rattle.rules.specs.Server.{slotsMost, Settings, Row, free, used, rowAt, Slot, freshSlot, Server, slotAt}
+use Rattle.rules.specs.Server.{Settings, Row, free, used, rowAt, Slot, freshSlot, Server, slotAt}
 use Rattle.rules.specs.Links.{CaRule, refuse, becomeSlave, becomeMaster, repeat, slaveOn, masterOn, masterDone, ignore, restart, isDown, isLive, isPast, enters, upMove, downMove, helloMove, malformedMove, caMove, checkMove}
 use Rattle.rules.specs.Rows.{unmarked, clearedIf}
 use Rattle.rules.specs.Slots.{passed, withLink, withKept, emptied, moved, helloSent}
 use Rattle.rules.specs.Alignment.{CaPacket, caPacket, ruleFor, answerMore, caSlot}
 use Rattle.rules.specs.Packets.{namesUs, slotOn}
 use Rattle.rules.specs.Poll.{Due, none, aHello, firstCa, keptCa, aCsus, anUpdate, caInterval, dueOf, slotBy, keptDropped, checked, pollSlot}
-use Rattle.rules.specs.Refusals.{isPeer, addPeerCode}
 use Rattle.rules.specs.Events.{Event, addPeer, linkUp, linkDown, packet, poll, set, withdraw, purge, codeOf, counts, Place, inSlot, nowhere, alignmentAt, liveIn, upSlot, readSlot, slotAfter, slotsAfter, cleared}
 use Rattle.rules.proofs.Relation.{Alive, RowsInv}
 use Rattle.rules.proofs.RowGrows.{Grows, grows-refl, grows-unmarked, keep-refl}
-
--- ---- codes
--- the first of some refusals does not hold where the code is 0
-pub no-code : (b : Bool) (c rest : ℕ) → eqb c 0 ≡ false → eqb (pick b c rest) 0 ≡ true → (b ≡ false) × (eqb rest 0 ≡ true)
-no-code true c rest z h = absurd (false≢true (sym z ∙ h))
-no-code false c rest z h = (refl, h)
-
-add-code : (s : Server) (k : ℕ) (id : List ℕ) → eqb (addPeerCode s k id) 0 ≡ true → length id ≡ idLength
-add-code s k id h =
-    let others : Bool = slotAt s k .used || (same id (s .settings .id) || has (isPeer id) (s .slots)) in
-    let wrong : Bool = not (eqb (length id) idLength) in
-    let f = no-code (not (ltb k slotsMost)) 1 (pick (wrong || others) 17 0) refl h in
-    let g = no-code (wrong || others) 17 0 refl (f .1) in
-    eqb-true (length id) idLength (not-false (eqb (length id) idLength) (or-false wrong others (g .0) .0))
+use Rattle.rules.proofs.CodeTold.{peer-told}
 
 -- ---- the peer's ID
 abbrev pub Peered : Slot → Type 0
@@ -97,7 +83,7 @@ peered-up x h = pick-of Peered (isDown (x .link .hello)) (helloSent _ (moved (up
 peered-after : (s : Server) (e : Event) → counts e (codeOf s e) ≡ true → (live : ℕ → Bool) (rows : List Row) (x : Slot) → Peered x
     → Peered (slotAfter e (s .settings) live rows x)
 unfolding codeOf
-peered-after s (addPeer k id) c live rows x h = λ _. add-code s k id c
+peered-after s (addPeer k id) c live rows x h = λ _. peer-told s k id c
 peered-after s (linkUp k now) c live rows x h = peered-up x h
 peered-after s (linkDown k now) c live rows x h = peered-moved (downMove (x .link)) x h
 peered-after s (packet k now p room) c live rows x h = peered-read (readPacket idLength p) (s .settings) live k now rows x h

@@ -1,74 +1,28 @@
 -- An entry that is still held after an event is still in its row.
 -- Assumes nothing.
-use Prim.Native.Nat.{ℕ, zero, suc, _-_}
-use mathlib.Core.Path.{_≡_, refl, sym, ap, _∙_}
-use mathlib.Core.Bool.{Bool, true, false, not, _&&_, false≢true}
+use Prim.Native.Nat.{ℕ, _-_}
+use mathlib.Core.Path.{_≡_, refl, sym, _∙_}
+use mathlib.Core.Bool.{Bool, true, false, false≢true}
 use mathlib.Core.List.{List, [], _∷_, map}
-use lib.Dec.{eqb}
-use lib.ListN.{getD}
-use borrow.Author.Tests.{eqb-true}
+use lib.ListN.{List·getD-map}
 use Rattle.laws.specs.Choice.{pick}
-use Rattle.laws.specs.Tables.{on, has, change, same}
-use Rattle.protocol.specs.declared.CsaNumber.{CsaNumber}
+use Rattle.laws.specs.Tables.{has, change}
+use Rattle.laws.proofs.Cells.{has-true, has-false, each-change}
 use Rattle.protocol.specs.Sizes.{idLength}
-use Rattle.protocol.specs.Numbers.{newer, firstNumber}
+use Rattle.protocol.specs.Numbers.{firstNumber}
 use Rattle.protocol.specs.Messages.{CsaRecord, Body, ca, csuRequest, csuReply, csus, hello}
 use Rattle.protocol.specs.Reading.{Reading, refused, malformed, message, readPacket}
 use Rattle.rules.specs.Server.{Settings, Entry, sameEntry, Value, Row, free, used, isFree, holds, rowAt, Slot, Server}
 use Rattle.rules.specs.Links.{enters}
-use Rattle.rules.specs.Rows.{isPurged, anySlot, unmarked, spread, filled, sweptRow, swept, clearedIf}
+use Rattle.rules.specs.Rows.{unmarked, spread, filled, swept, clearedIf}
 use Rattle.rules.specs.Requests.{entryOf}
 use Rattle.rules.specs.Updates.{hopsMost, value, changedRow, purgedRow, UpdateRule, null, purgeAbsent, full, stored, equal, older, updateRule, valueOf, renewed, owed, rowsBy, Updated, byRule, allUpdated, replied, allReplied}
 use Rattle.rules.specs.Packets.{rowsOn}
 use Rattle.rules.specs.Refusals.{ownEntry}
 use Rattle.rules.specs.Events.{Event, addPeer, linkUp, linkDown, packet, poll, set, withdraw, purge, counts, codeOf, Place, inSlot, nowhere, placeOf, alignmentAt, liveIn, slotsAfter, readRows, rowsChanged, cleared, acted, serverIf, step}
 use Rattle.rules.proofs.Relation.{Inv}
-use Rattle.rules.proofs.WaitLaws.{and-true, has-true, has-false}
-
--- ---- entries that are the same
-same-eq : (a b : List ℕ) → same a b ≡ true → a ≡ b
-same-eq [] [] h = refl
-same-eq [] (y ∷ ys) h = absurd (false≢true h)
-same-eq (x ∷ xs) [] h = absurd (false≢true h)
-same-eq (x ∷ xs) (y ∷ ys) h =
-    let w = and-true (eqb x y) (same xs ys) h in
-    let p : x ≡ y = eqb-true x y (w .0) in
-    let q : xs ≡ ys = same-eq xs ys (w .1) in
-    cc
-
-same-entry : (f e x : Entry) → sameEntry e x ≡ true → sameEntry f e ≡ sameEntry f x
-same-entry f e x h =
-    let w = and-true (same (e .key) (x .key)) (same (e .originator) (x .originator)) h in
-    ap (λ (l : List ℕ). same (f .key) l && same (f .originator) (e .originator)) (same-eq (e .key) (x .key) (w .0))
-    ∙ ap (λ (l : List ℕ). same (f .key) (x .key) && same (f .originator) l) (same-eq (e .originator) (x .originator) (w .1))
-
-holds-same : (e x : Entry) (r : Row) → sameEntry e x ≡ true → holds e r ≡ holds x r
-holds-same e x free h = refl
-holds-same e x (used f v m) h = same-entry f e x h
-
--- ---- cells by their index; q is a test that a change keeps
-module _ {A : Type 0} (d : A) (q : A → Bool) where
-  change-by : (p : A → Bool) (f : A → A) (x : A) (l : List A) → (p x ≡ true → q (f x) ≡ q x) → ((j : ℕ) → q (getD (change p f l) j d) ≡ q (getD l j d))
-      → (b : Bool) → p x ≡ b → (j : ℕ) → q (getD (pick b (f x ∷ l) (x ∷ change p f l)) j d) ≡ q (getD (x ∷ l) j d)
-  change-by p f x l h ih true e zero = h e
-  change-by p f x l h ih true e (suc j) = refl
-  change-by p f x l h ih false e zero = refl
-  change-by p f x l h ih false e (suc j) = ih j
-
-  change-keeps : (p : A → Bool) (f : A → A) → ((x : A) → p x ≡ true → q (f x) ≡ q x) → (l : List A) (j : ℕ) → q (getD (change p f l) j d) ≡ q (getD l j d)
-  change-keeps p f h [] j = refl
-  change-keeps p f h (x ∷ l) j = change-by p f x l (h x) (change-keeps p f h l) (p x) refl j
-
-  map-keeps : (f : A → A) → ((x : A) → q (f x) ≡ q x) → (l : List A) (j : ℕ) → q (getD (map f l) j d) ≡ q (getD l j d)
-  map-keeps f h [] j = refl
-  map-keeps f h (x ∷ l) zero = h x
-  map-keeps f h (x ∷ l) (suc j) = map-keeps f h l j
-
-  -- a change after which only those pass that did
-  map-fewer : (f : A → A) → ((x : A) → q (f x) ≡ true → q x ≡ true) → (l : List A) (j : ℕ) → q (getD (map f l) j d) ≡ true → q (getD l j d) ≡ true
-  map-fewer f h [] j e = e
-  map-fewer f h (x ∷ l) zero e = h x e
-  map-fewer f h (x ∷ l) (suc j) e = map-fewer f h l j e
+use Rattle.rules.proofs.Entries.{holds-along, Alike, alike-unmarked, alike-owed, alike-replied, alike-renewed, alike-changed, alike-purged}
+use Rattle.rules.proofs.Invariant.{swept-at, swept-holds}
 
 -- ---- row i holds the entry x, and no other row does
 module _ (x : Entry) (i : ℕ) where
@@ -79,8 +33,9 @@ module _ (x : Entry) (i : ℕ) where
   only-each : (a b : List Row) → ((j : ℕ) → holds x (rowAt b j) ≡ holds x (rowAt a j)) → Only a → Only b
   only-each a b h o = record { there = h i ∙ o .there; alone = λ j e. o .alone j (sym (h j) ∙ e) }
 
-  only-change : (p : Row → Bool) (f : Row → Row) → ((r : Row) → holds x (f r) ≡ holds x r) → (rows : List Row) → Only rows → Only (change p f rows)
-  only-change p f h rows o = only-each rows (change p f rows) (change-keeps free (holds x) p f (λ r _. h r) rows) o
+  only-change : (p : Row → Bool) (f : Row → Row) → ((r : Row) → Alike r (f r)) → (rows : List Row) → Only rows → Only (change p f rows)
+  only-change p f h rows o =
+      only-each rows (change p f rows) (each-change free p f (λ a b. holds x b ≡ holds x a) (λ r. refl) rows (λ j _. h (rowAt rows j) .holders x)) o
 
   fill-one : (e : Entry) (v : Value) (m : ℕ → Bool) → sameEntry e x ≡ false → (r : Row) → isFree r ≡ true → sameEntry e x ≡ holds x r
   fill-one e v m n free h = n
@@ -90,44 +45,15 @@ module _ (x : Entry) (i : ℕ) where
   fill-by : (e : Entry) (v : Value) (m : ℕ → Bool) (rows : List Row) → has (holds e) rows ≡ false → Only rows → (b : Bool) → sameEntry e x ≡ b
       → Only (filled (used e v m) rows)
   fill-by e v m rows n o true z =
-      absurd (false≢true (sym (has-false free (holds e) refl rows n i) ∙ holds-same e x (rowAt rows i) z ∙ o .there))
+      absurd (false≢true (sym (has-false free (holds e) refl rows n i) ∙ holds-along e x (rowAt rows i) z ∙ o .there))
   fill-by e v m rows n o false z =
-      only-each rows (filled (used e v m) rows) (change-keeps free (holds x) isFree (λ _. used e v m) (fill-one e v m z) rows) o
+      only-each rows (filled (used e v m) rows)
+      (each-change free isFree (λ _. used e v m) (λ a b. holds x b ≡ holds x a) (λ r. refl) rows (λ j. fill-one e v m z (rowAt rows j))) o
 
-  only-pick : (e : Entry) (v : Value) (m : ℕ → Bool) (f : Row → Row) → ((r : Row) → holds x (f r) ≡ holds x r) → (rows : List Row) → Only rows
+  only-pick : (e : Entry) (v : Value) (m : ℕ → Bool) (f : Row → Row) → ((r : Row) → Alike r (f r)) → (rows : List Row) → Only rows
       → (b : Bool) → has (holds e) rows ≡ b → Only (pick b (change (holds e) f rows) (filled (used e v m) rows))
   only-pick e v m f h rows o true z = only-change (holds e) f h rows o
   only-pick e v m f h rows o false z = fill-by e v m rows z o (sameEntry e x) refl
-
-  -- ---- the changes of one row
-  keeps-changed : (live : ℕ → Bool) (payload : List ℕ) (r : Row) → holds x (changedRow live payload r) ≡ holds x r
-  keeps-changed live payload free = refl
-  keeps-changed live payload (used e v m) = refl
-
-  keeps-purged : (live : ℕ → Bool) (r : Row) → holds x (purgedRow live r) ≡ holds x r
-  keeps-purged live free = refl
-  keeps-purged live (used e v m) = refl
-
-  keeps-renewed : (live : ℕ → Bool) (k : ℕ) (c : CsaRecord) (r : Row) → holds x (renewed live k c r) ≡ holds x r
-  keeps-renewed live k c free = refl
-  keeps-renewed live k c (used e v m) = refl
-
-  keeps-unmarked : (k : ℕ) (r : Row) → holds x (unmarked k r) ≡ holds x r
-  keeps-unmarked k free = refl
-  keeps-unmarked k (used e v m) = refl
-
-  keeps-owed : (k : ℕ) (r : Row) → holds x (owed k r) ≡ holds x r
-  keeps-owed k free = refl
-  keeps-owed k (used e v m) = refl
-
-  replied-by : (e : Entry) (v : Value) (m n : ℕ → Bool) (a b : Bool) → holds x (pick a (used e v m) (pick b (used e v m) (used e v n))) ≡ sameEntry e x
-  replied-by e v m n true b = refl
-  replied-by e v m n false true = refl
-  replied-by e v m n false false = refl
-
-  keeps-replied : (k : ℕ) (n : CsaNumber) (r : Row) → holds x (replied k n r) ≡ holds x r
-  keeps-replied k n free = refl
-  keeps-replied k n (used e v m) = replied-by e v m (on k false m) (newer n (v .number)) (newer (v .number) n)
 
   -- ---- the changes of the rows
   only-rule : (u : UpdateRule) (live : ℕ → Bool) (k : ℕ) (r : CsaRecord) (rows : List Row) → Only rows → Only (rowsBy u live k r rows)
@@ -135,9 +61,9 @@ module _ (x : Entry) (i : ℕ) where
   only-rule purgeAbsent live k r rows o = o
   only-rule full live k r rows o = o
   only-rule stored live k r rows o =
-      only-pick (entryOf r) (valueOf r) (spread live k (r .hops - 1)) (renewed live k r) (keeps-renewed live k r) rows o (has (holds (entryOf r)) rows) refl
-  only-rule equal live k r rows o = only-change (holds (entryOf r)) (unmarked k) (keeps-unmarked k) rows o
-  only-rule older live k r rows o = only-change (holds (entryOf r)) (owed k) (keeps-owed k) rows o
+      only-pick (entryOf r) (valueOf r) (spread live k (r .hops - 1)) (renewed live k r) (alike-renewed live k r) rows o (has (holds (entryOf r)) rows) refl
+  only-rule equal live k r rows o = only-change (holds (entryOf r)) (unmarked k) (alike-unmarked k) rows o
+  only-rule older live k r rows o = only-change (holds (entryOf r)) (owed k) (alike-owed k) rows o
 
   only-updated : (live : ℕ → Bool) (k : ℕ) (rs : List CsaRecord) (u : Updated) → Only (u .rows) → Only (allUpdated live k rs u .rows)
   only-updated live k [] u o = o
@@ -148,7 +74,7 @@ module _ (x : Entry) (i : ℕ) where
   only-replied k [] rows o = o
   only-replied k (r ∷ rs) rows o =
       only-replied k rs (change (holds (entryOf r)) (replied k (r .number)) rows)
-      (only-change (holds (entryOf r)) (replied k (r .number)) (keeps-replied k (r .number)) rows o)
+      (only-change (holds (entryOf r)) (replied k (r .number)) (alike-replied k (r .number)) rows o)
 
   only-body : (b : Body) (live : ℕ → Bool) (k : ℕ) (rows : List Row) → Only rows → Only (rowsOn b live k rows)
   only-body (hello t f ids) live k rows o = o
@@ -169,13 +95,14 @@ module _ (x : Entry) (i : ℕ) where
   only-event (packet k now p room) s live rows o = only-read (readPacket idLength p) live k rows o
   only-event (poll k now room) s live rows o = o
   only-event (set key payload) s live rows o =
-      only-pick (ownEntry s key) (value firstNumber payload hopsMost) live (changedRow live payload) (keeps-changed live payload) rows o
+      only-pick (ownEntry s key) (value firstNumber payload hopsMost) live (changedRow live payload) (alike-changed live payload) rows o
       (has (holds (ownEntry s key)) rows) refl
-  only-event (withdraw key) s live rows o = only-change (holds (ownEntry s key)) (changedRow live []) (keeps-changed live []) rows o
-  only-event (purge key) s live rows o = only-change (holds (ownEntry s key)) (purgedRow live) (keeps-purged live) rows o
+  only-event (withdraw key) s live rows o = only-change (holds (ownEntry s key)) (changedRow live []) (alike-changed live []) rows o
+  only-event (purge key) s live rows o = only-change (holds (ownEntry s key)) (purgedRow live) (alike-purged live) rows o
 
   only-cleared-if : (b : Bool) (k : ℕ) (rows : List Row) → Only rows → Only (clearedIf b k rows)
-  only-cleared-if true k rows o = only-each rows (map (unmarked k) rows) (map-keeps free (holds x) (unmarked k) (keeps-unmarked k) rows) o
+  only-cleared-if true k rows o =
+      only-each rows (map (unmarked k) rows) (λ j. rw (List·getD-map (unmarked k) rows j free) (alike-unmarked k (rowAt rows j) .holders x)) o
   only-cleared-if false k rows o = o
 
   only-cleared : (w : Place) (before after : List Slot) (rows : List Row) → Only rows → Only (cleared w before after rows)
@@ -183,18 +110,10 @@ module _ (x : Entry) (i : ℕ) where
   only-cleared nowhere before after rows o = o
 
   -- ---- the sweep frees a row, or leaves it
-  swept-by : (e : Entry) (v : Value) (m : ℕ → Bool) (b : Bool) → holds x (pick b free (used e v m)) ≡ true → sameEntry e x ≡ true
-  swept-by e v m true h = absurd (false≢true h)
-  swept-by e v m false h = h
-
-  swept-holds : (r : Row) → holds x (sweptRow r) ≡ true → holds x r ≡ true
-  swept-holds free h = h
-  swept-holds (used e v m) h = swept-by e v m (isPurged (v .number) && not (anySlot m)) h
-
   stays-swept : (rows : List Row) → Only rows → has (holds x) (swept rows) ≡ true → holds x (rowAt (swept rows) i) ≡ true
   stays-swept rows o h =
       let f = has-true free (holds x) (swept rows) h in
-      let z : f .0 ≡ i = o .alone (f .0) (map-fewer free (holds x) sweptRow swept-holds rows (f .0) (f .1)) in
+      let z : f .0 ≡ i = o .alone (f .0) (swept-holds x (rowAt rows (f .0)) (rowAt (swept rows) (f .0)) (swept-at rows (f .0)) (f .1)) in
       rw (← z) (f .1)
 
   stays-if : (s : Server) (e : Event) → Only (s .rows) → (b : Bool) → has (holds x) (serverIf b s e .rows) ≡ true → holds x (rowAt (serverIf b s e .rows) i) ≡ true

@@ -12,9 +12,9 @@ use borrow.Author.Tests.{eq-eqb}
 use Rattle.laws.specs.Choice.{pick}
 use Rattle.laws.specs.Lists.{All}
 use Rattle.laws.specs.Tables.{has}
+use Rattle.laws.proofs.Bools.{or-right}
 use Rattle.rules.specs.Server.{rowsMost, Row, waitsFor, rowAt}
 use Rattle.rules.specs.Rows.{next, behind, nextWaiting}
-use Rattle.rules.proofs.WaitLaws.{or-right}
 
 -- ---- each of them passes the test
 next-by : (p : ℕ → Bool) (j : ℕ) (l r : List ℕ) → All (λ i. p i ≡ true) l → All (λ i. p i ≡ true) r → (b : Bool) → p j ≡ b → All (λ i. p i ≡ true) (pick b (j ∷ l) r)

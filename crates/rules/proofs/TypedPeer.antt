@@ -28,7 +28,7 @@ use Rattle.rules.specs.Alignment.{CaPacket, caPacket, ruleFor, answerFro
 use Rattle.rules.specs.Packets.{namesUs, updatedBy, slotOn, rowsOn, sentOn}
 use Rattle.rules.specs.Poll.{caInterval, requestRecord, heldRecord, Due, none, aHello, firstCa, keptCa, aCsus, anUpdate, dueOf, helloOf, firstFlags, firstCaOf, sentBy, slotBy, keptDropped, checked, pollSlot, pollSent}
 use Rattle.rules.specs.Refusals.{isHello}
-use Rattle.laws.proofs.Each.{chosen}
+use Rattle.laws.proofs.Bools.{pick-of}
 use Rattle.rules.proofs.Typed.{TypedSettings, Ours, KeptFor}
 use Rattle.rules.proofs.TypedRows.{TypedRows, replied-all}
 use Rattle.rules.proofs.TypedRecords.{GoodRequests, GoodUpdated, all-updated, all-taken-in, rotated-good, replies-good, all-solicited, summaries-good, waiting-good, requests-good}
@@ -167,12 +167,12 @@ module _ (s : Settings) (peer : List ℕ) (ts : TypedSettings s) (i : Id idLengt
     sent-on (csuRequest rs) live k m x h g =
         let u = updated live k rs [] h tt in
         let l = map summaryOf (updatedBy live k rs rows [] .replies) in
-        chosen (GoodSent s peer) (isEmpty l) nothing (packet (toPeer s x (csuReply l))) tt
+        pick-of (GoodSent s peer) (isEmpty l) nothing (packet (toPeer s x (csuReply l))) tt
         (meant (ours x (csuReply l) g (id-of x g) (replies-good (updatedBy live k rs rows [] .replies) (u .replies) (u .few))))
     sent-on (csuReply rs) live k m x h g = tt
     sent-on (csus rs) live k m x h g =
         let l = allSolicited rows rs in
-        chosen (GoodSent s peer) (isEmpty l) nothing (packet (toPeer s x (csuRequest l))) tt
+        pick-of (GoodSent s peer) (isEmpty l) nothing (packet (toPeer s x (csuRequest l))) tt
         (meant (ours x (csuRequest l) g (id-of x g) (all-solicited rows rs tr h)))
     sent-on (hello t f ids) live k m x h g = tt
 
@@ -181,7 +181,7 @@ module _ (s : Settings) (peer : List ℕ) (ts : TypedSettings s) (i : Id idLengt
     checked-kept now x g =
         let y : Slot = checked now x in
         let h : SlotFor s peer y = moved-kept s peer (checkMove now (x .link)) x (check-good now (x .link) (g .link)) g in
-        chosen (SlotFor s peer) (isPast (y .link .alignment) && passed caInterval (y .timers .ca) now) (withKept [] y) y
+        pick-of (SlotFor s peer) (isPast (y .link .alignment) && passed caInterval (y .timers .ca) now) (withKept [] y) y
         (kept-kept s peer [] y (inl refl) h) h
 
     first-ca : (x : Slot) → SlotFor s peer x → Ours s peer (firstCaOf s x)
@@ -193,7 +193,7 @@ module _ (s : Settings) (peer : List ℕ) (ts : TypedSettings s) (i : Id idLengt
         protocol-fits = ts .protocol-fits;
         group-fits = ts .group-fits;
         sender = ts .id;
-        receiver = chosen (λ r. Id idLength r ⊎ (r ≡ [])) (hearsPeer (x .link .hello)) (x .peer) [] (inl (id-of x g)) (inr refl);
+        receiver = pick-of (λ r. Id idLength r ⊎ (r ≡ [])) (hearsPeer (x .link .hello)) (x .peer) [] (inl (id-of x g)) (inr refl);
         body = record {
           some-interval = ts .some-interval;
           interval-fits = ts .interval-fits;
@@ -206,7 +206,7 @@ module _ (s : Settings) (peer : List ℕ) (ts : TypedSettings s) (i : Id idLengt
       protocol = refl;
       group = refl;
       sender = refl;
-      receiver = chosen (λ r. (r ≡ peer) ⊎ ((true ≡ true) × (r ≡ []))) (hearsPeer (x .link .hello)) (x .peer) [] (inl (g .peer-is)) (inr (refl, refl));
+      receiver = pick-of (λ r. (r ≡ peer) ⊎ ((true ≡ true) × (r ≡ []))) (hearsPeer (x .link .hello)) (x .peer) [] (inl (g .peer-is)) (inr (refl, refl));
     }
 
     due-sent : (d : Due) (k : ℕ) (x : Slot) → SlotFor s peer x → GoodSent s peer (sentBy d s rows k x)

@@ -24,7 +24,8 @@ use Rattle.rules.specs.Requests.{entryOf, asks, upToDate, Wanted, raised
 use Rattle.rules.specs.Updates.{hopsMost, UpdateRule, null, purgeAbsent, full, stored, equal, older, updateRule, requestsBy, isAcknowledged, Updated, byRule, allUpdated, recordOf, nullRecord, solicitedOf, solicited, allSolicited}
 use Rattle.rules.specs.Alignment.{summaryRecord}
 use Rattle.rules.specs.Poll.{requestRecord, heldRecord}
-use Rattle.laws.proofs.Each.{picked, chosen, all-at, all-map, all-append, all-take, all-drop, all-without, all-find, all-change}
+use Rattle.laws.proofs.Each.{picked, all-at, all-map, all-append, all-take, all-drop, all-without, all-find, all-change}
+use Rattle.laws.proofs.Bools.{pick-of}
 use Rattle.rules.proofs.Typed.{GoodEntry, GoodNumber, GoodValue, TypedRow, GoodRequest}
 use Rattle.rules.proofs.TypedRows.{Update, TypedRows, entry-good, rows-by}
 
@@ -36,15 +37,15 @@ abbrev GoodWanted : Wanted → Type 0
 GoodWanted w = GoodRequests (w .requests)
 
 raised-good : (n : CsaNumber) → GoodNumber n → (q : Request) → GoodRequest q → GoodRequest (raised n q)
-raised-good n h q g = record { entry = g .entry; number = chosen GoodNumber (newer n (q .number)) n (q .number) h (g .number) }
+raised-good n h q g = record { entry = g .entry; number = pick-of GoodNumber (newer n (q .number)) n (q .number) h (g .number) }
 
 join-good : (e : Entry) (n : CsaNumber) (w : Wanted) → GoodEntry e → GoodNumber n → GoodWanted w → GoodWanted (join e n w)
 join-good e n w he hn g =
-    chosen GoodWanted (has (asks e) (w .requests)) (record { requests = change (asks e) (raised n) (w .requests); missed = w .missed })
+    pick-of GoodWanted (has (asks e) (w .requests)) (record { requests = change (asks e) (raised n) (w .requests); missed = w .missed })
     (pick (ltb (length (w .requests)) requestsMost) (record { requests = w .requests ++ (record { entry = e; number = n } ∷ []); missed = w .missed })
     (record { requests = w .requests; missed = pick (ltb (w .missed) 65535) (suc (w .missed)) (w .missed) }))
     (all-change GoodRequest GoodRequest (asks e) (raised n) (λ q t. raised-good n hn q) (λ q t. t) (w .requests) g)
-    (chosen GoodWanted (ltb (length (w .requests)) requestsMost)
+    (pick-of GoodWanted (ltb (length (w .requests)) requestsMost)
     (record { requests = w .requests ++ (record { entry = e; number = n } ∷ []); missed = w .missed })
     (record { requests = w .requests; missed = pick (ltb (w .missed) 65535) (suc (w .missed)) (w .missed) })
     (all-append GoodRequest (w .requests) (record { entry = e; number = n } ∷ []) g (record { entry = he; number = hn }, tt)) g)
@@ -60,7 +61,7 @@ pub all-taken-in : (k : Kind) (rows : List Row) (rs : List CsaRecord) (w : Wante
 all-taken-in k rows [] w a g = g
 all-taken-in k rows (r ∷ rs) w a g =
     all-taken-in k rows rs (takenIn rows r w) (a .1)
-    (chosen GoodWanted (has (upToDate (entryOf r) (r .number)) rows) w (join (entryOf r) (r .number) w) g
+    (pick-of GoodWanted (has (upToDate (entryOf r) (r .number)) rows) w (join (entryOf r) (r .number) w) g
     (join-good (entryOf r) (r .number) w (entry-of k r (a .0)) (number-of k r (a .0)) g))
 
 pub rotated-good : (qs : List Request) → GoodRequests qs → GoodRequests (rotated qs)
@@ -88,8 +89,8 @@ by-rule : (u : UpdateRule) (live : ℕ → Bool) (k : ℕ) (r : CsaRecord) (n : 
 by-rule u live k r n x h g = record {
   rows = rows-by u live k r (x .rows) h (g .rows);
   requests = requests-by u r (x .requests) (g .requests);
-  replies = chosen (All Update) (isAcknowledged u) (x .replies ++ (r ∷ [])) (x .replies) (all-append Update (x .replies) (r ∷ []) (g .replies) (h, tt)) (g .replies);
-  few = chosen (λ l. length l ≤ suc n) (isAcknowledged u) (x .replies ++ (r ∷ [])) (x .replies)
+  replies = pick-of (All Update) (isAcknowledged u) (x .replies ++ (r ∷ [])) (x .replies) (all-append Update (x .replies) (r ∷ []) (g .replies) (h, tt)) (g .replies);
+  few = pick-of (λ l. length l ≤ suc n) (isAcknowledged u) (x .replies ++ (r ∷ [])) (x .replies)
       (let f = g .few in simp length-append (omega arith)) (let f = g .few in omega arith);
 }
 
@@ -180,13 +181,13 @@ all-solicited rows rs g h = record {
   each = all-map (GoodRecord idLength Csus) Update (solicited rows) (solicited-good rows g) rs (h .each);
 }
 
--- ---- rows chosen by their place
+-- ---- rows pick-of by their place
 next-few : (p : ℕ → Bool) (left n j : ℕ) → length (next p left n j) ≤ n
 unfolding next
 next-few p zero n j = omega arith
 next-few p (suc left) zero j = omega arith
 next-few p (suc left) (suc n) j =
-    chosen (λ l. length l ≤ suc n) (p j) (j ∷ next p left n (suc j)) (next p left (suc n) (suc j)) (omega (arith, next-few p left n (suc j)))
+    pick-of (λ l. length l ≤ suc n) (p j) (j ∷ next p left n (suc j)) (next p left (suc n) (suc j)) (omega (arith, next-few p left n (suc j)))
     (next-few p left (suc n) (suc j))
 
 next-pass : (p : ℕ → Bool) (left n j : ℕ) → All (λ i. p i ≡ true) (next p left n j)

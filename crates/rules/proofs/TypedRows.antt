@@ -25,7 +25,8 @@ use Rattle.rules.specs.Rows.{isPurged, anySlot, unmarked, spread, filled
 use Rattle.rules.specs.Requests.{entryOf}
 use Rattle.rules.specs.Updates.{hopsMost, value, stepped, changedRow, newRow, setRows, withdrawRows, purgedRow, purgeRows, UpdateRule, null, purgeAbsent, full, stored, equal, older, valueOf, rowFor, renewed, owed, rowsBy, replied, allReplied}
 use Rattle.rules.specs.Refusals.{holdsSpent}
-use Rattle.laws.proofs.Each.{chosen, all-map, all-change, all-none}
+use Rattle.laws.proofs.Each.{all-map, all-change, all-none}
+use Rattle.laws.proofs.Bools.{pick-of}
 use Rattle.rules.proofs.Typed.{GoodEntry, GoodNumber, GoodRow, TypedRow}
 
 -- ---- CSA numbers
@@ -89,7 +90,7 @@ unmarked-typed k (used e v m) g = unmarked-good k e v m g
 
 swept-typed : (r : Row) → TypedRow r → TypedRow (sweptRow r)
 swept-typed free g = tt
-swept-typed (used e v m) g = chosen TypedRow (isPurged (v .number) && not (anySlot m)) free (used e v m) tt g
+swept-typed (used e v m) g = pick-of TypedRow (isPurged (v .number) && not (anySlot m)) free (used e v m) tt g
 
 -- a change of ours
 changed-good : (live : ℕ → Bool) (payload : List ℕ) (e : Entry) (v : Value) (m : ℕ → Bool) → length payload ≤ payloadMost → Octets payload
@@ -185,8 +186,8 @@ owed-typed k (used e v m) g = record { entry = g .entry; value = g .value; hops-
 replied-typed : (k : ℕ) (n : CsaNumber) (r : Row) → TypedRow r → TypedRow (replied k n r)
 replied-typed k n free g = tt
 replied-typed k n (used e v m) g =
-    chosen TypedRow (newer n (v .number)) (used e v m) (pick (newer (v .number) n) (used e v m) (used e v (on k false m))) g
-    (chosen TypedRow (newer (v .number) n) (used e v m) (used e v (on k false m)) g (unmarked-good k e v m g))
+    pick-of TypedRow (newer n (v .number)) (used e v m) (pick (newer (v .number) n) (used e v m) (used e v (on k false m))) g
+    (pick-of TypedRow (newer (v .number) n) (used e v m) (used e v (on k false m)) g (unmarked-good k e v m g))
 
 -- ---- all rows
 abbrev pub TypedRows : List Row → Type 0
@@ -208,7 +209,7 @@ cleared-all false k rows g = g
 pub set-all : (live : ℕ → Bool) (e : Entry) (payload : List ℕ) (rows : List Row) → GoodEntry e → length payload ≤ payloadMost → Octets payload
     → has (holdsSpent e) rows ≡ false → TypedRows rows → TypedRows (setRows live e payload rows)
 set-all live e payload rows ge l o n g =
-    chosen TypedRows (has (holds e) rows) (change (holds e) (changedRow live payload) rows) (filled (newRow live e payload) rows)
+    pick-of TypedRows (has (holds e) rows) (change (holds e) (changedRow live payload) rows) (filled (newRow live e payload) rows)
     (all-change (λ r. (holdsSpent e r ≡ false) × TypedRow r) TypedRow (holds e) (changedRow live payload) (set-typed live e payload l o) (λ r t. t .1)
     rows (all-none TypedRow (holdsSpent e) rows n g))
     (filling (newRow live e payload) (new-typed live e payload ge l o) rows g)
@@ -224,7 +225,7 @@ rows-by null live k r rows u g = g
 rows-by purgeAbsent live k r rows u g = g
 rows-by full live k r rows u g = g
 rows-by stored live k r rows u g =
-    chosen TypedRows (has (holds (entryOf r)) rows) (change (holds (entryOf r)) (renewed live k r) rows) (filled (rowFor live k r) rows)
+    pick-of TypedRows (has (holds (entryOf r)) rows) (change (holds (entryOf r)) (renewed live k r) rows) (filled (rowFor live k r) rows)
     (changing (holds (entryOf r)) (renewed live k r) (renewed-typed live k r u) rows g)
     (filling (rowFor live k r) (stored-good live k r (entryOf r) u (entry-good r u)) rows g)
 rows-by equal live k r rows u g = changing (holds (entryOf r)) (unmarked k) (unmarked-typed k) rows g

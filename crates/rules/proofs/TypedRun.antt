@@ -27,7 +27,8 @@ use Rattle.rules.specs.Refusals.{noPeer, early, noRoom, linkIsDown, poll
 use Rattle.rules.specs.Events.{Event, addPeer, linkUp, linkDown, packet, poll, set, withdraw, purge, codeOf, counts, Place, inSlot, nowhere, placeOf, liveIn, alignmentAt, peerSlot, upSlot, downSlot, readSlot, slotAfter, slotsAfter, readRows, rowsChanged, cleared, timeAfter, acted, serverIf, step, run}
 use Rattle.rules.proofs.Stated.{both, none-stated, slotMissing, peerBad, link-codes, poll-codes, add-peer-codes, set-codes}
 use Rattle.rules.proofs.StatedPacket.{packet-codes}
-use Rattle.laws.proofs.Each.{chosen, all-at, all-set, all-replicate}
+use Rattle.laws.proofs.Each.{all-at, all-set, all-replicate}
+use Rattle.laws.proofs.Bools.{pick-of}
 use Rattle.rules.proofs.Typed.{TypedSettings, TypedEvent, TypedRow, TypedSlot, TypedServer}
 use Rattle.rules.proofs.TypedRows.{TypedRows, swept-all, cleared-all, set-all, withdraw-all, purge-all}
 use Rattle.rules.proofs.TypedSlots.{SlotFor, slot-for, typed-for, other-good, up-good, timers-kept, moved-kept}
@@ -143,7 +144,7 @@ module _ (s : Server) where
         let l = upMove (x .link) in
         let g = moved-kept (s .settings) (x .peer) l x (up-good (x .link) (slot-here k .link)) (slot-here k) in
         put k (upSlot x) (in-use k (link-codes s k now .0 .code-0 .0 (eqb-true (codeOf s (linkUp k now)) 0 c) .0))
-        (chosen (SlotFor (s .settings) (x .peer)) (isDown (x .link .hello)) (helloSent Never (moved l x)) x
+        (pick-of (SlotFor (s .settings) (x .peer)) (isDown (x .link .hello)) (helloSent Never (moved l x)) x
         (timers-kept (s .settings) (x .peer)
         (record { hello = Never; ca = moved l x .timers .ca; csus = moved l x .timers .csus; update = moved l x .timers .update }) (moved l x) g)
         (slot-here k))

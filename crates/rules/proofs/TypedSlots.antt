@@ -20,7 +20,7 @@ use Rattle.rules.specs.Server.{Settings, Request, Slot}
 use Rattle.rules.specs.Links as links
 use Rattle.rules.specs.Links.{withHello, recorded, negotiating, toBidirectional, toOther, upMove, helloMove, checkMove, enters, isDown, isBidirectional, hearsPeer, CaRule, caMove}
 use Rattle.rules.specs.Slots.{withLink, withTimers, withKept, withListed, withCursor, withRequests, emptied, moved, completed}
-use Rattle.laws.proofs.Each.{chosen}
+use Rattle.laws.proofs.Bools.{pick-of}
 use Rattle.rules.proofs.Typed.{KeptFor, GoodLink, TypedSlot}
 use Rattle.rules.proofs.TypedRecords.{GoodRequests}
 
@@ -53,19 +53,19 @@ negotiating-good : (l : Link) → GoodLink l → GoodLink (negotiating l)
 negotiating-good l g = record { number = next-fits (l .number); last = g .last }
 
 pub up-good : (l : Link) → GoodLink l → GoodLink (upMove l)
-up-good l g = chosen GoodLink (isDown (l .hello)) (toOther Waiting l) l (other-good Waiting l g) g
+up-good l g = pick-of GoodLink (isDown (l .hello)) (toOther Waiting l) l (other-good Waiting l g) g
 
 pub hello-good : (time interval factor : ℕ) (named : Bool) (l : Link) → GoodLink l → GoodLink (helloMove time interval factor named l)
 hello-good time interval factor named l g =
     let m : Link = recorded time interval factor l in
     let h : GoodLink m = record { number = g .number; last = g .last } in
-    chosen GoodLink named (toBidirectional m) (toOther Unidirectional m)
-    (chosen GoodLink (isBidirectional (m .hello)) m (negotiating (withHello Bidirectional m)) h
+    pick-of GoodLink named (toBidirectional m) (toOther Unidirectional m)
+    (pick-of GoodLink (isBidirectional (m .hello)) m (negotiating (withHello Bidirectional m)) h
     (negotiating-good (withHello Bidirectional m) (record { number = g .number; last = g .last })))
     (other-good Unidirectional m h)
 
 pub check-good : (time : ℕ) (l : Link) → GoodLink l → GoodLink (checkMove time l)
-check-good time l g = chosen GoodLink (hearsPeer (l .hello) && stale (l .interval) (l .factor) (l .heard) time) (toOther Waiting l) l (other-good Waiting l g) g
+check-good time l g = pick-of GoodLink (hearsPeer (l .hello) && stale (l .interval) (l .factor) (l .heard) time) (toOther Waiting l) l (other-good Waiting l g) g
 
 pub ca-good : (u : CaRule) (c : links.CaIn) (more : Bool) (l : Link) → c .head .number .0 < 4294967296 → GoodLink l → GoodLink (caMove u c more l)
 ca-good links.refuse c more l h g = g
@@ -100,7 +100,7 @@ module _ (s : Settings) (peer : List ℕ) where
 
   pub moved-kept : (l : Link) (x : Slot) → GoodLink l → SlotFor s peer x → SlotFor s peer (moved l x)
   moved-kept l x h g =
-      chosen (SlotFor s peer) (enters (x .link .alignment) (l .alignment)) (emptied (withLink l x)) (withLink l x)
+      pick-of (SlotFor s peer) (enters (x .link .alignment) (l .alignment)) (emptied (withLink l x)) (withLink l x)
       (record { peer-is = g .peer-is; link = h; requests = tt; kept = inl refl })
       (link-kept l x h g)
 
