@@ -58,7 +58,7 @@ pub fn field4(p: &[u8], at: usize) -> u32
         + (octet(s, 3) as u32)
 }
 
-// src at a position of out: the next position.
+// src at a position of out: the next position. Below the writers: asks for the room.
 pub fn put(out: &mut [u8], at: usize, src: &[u8]) -> usize
     requires { ⌜ at + length (now src) ≤ length (now out) ⌝ }
     ensures { λ r. ⌜ Put (now (src .entry)) at (now (out .entry)) (now (out .exit)) r ⌝ }
@@ -68,7 +68,7 @@ pub fn put(out: &mut [u8], at: usize, src: &[u8]) -> usize
     to
 }
 
-// The first n octets of src, or all.
+// The first n octets of src, or all. Below the writers, as `put` is.
 pub fn put_first(out: &mut [u8], at: usize, src: &[u8], n: usize) -> usize
     requires { ⌜ at + length (now src) ≤ length (now out) ⌝ }
     ensures { λ r. ⌜ Put (take n (now (src .entry))) at (now (out .entry)) (now (out .exit)) r ⌝ }

@@ -38,9 +38,13 @@ abbrev pub bit : Bool → ℕ
 bit true = 1
 bit false = 0
 
--- 'CA flags from the top bit: M, I, O'; the other types define none
+-- 'CA flags from the top bit: M, I, O'
+abbrev pub flagsField : CaFlags → ℕ
+flagsField f = bit (f .master) * 32768 + bit (f .initial) * 16384 + bit (f .more) * 8192
+
+-- the other types define none
 abbrev pub flagsOf : Body → ℕ
-flagsOf (ca n f rs) = bit (f .master) * 32768 + bit (f .initial) * 16384 + bit (f .more) * 8192
+flagsOf (ca n f rs) = flagsField f
 flagsOf (csuRequest rs) = 0
 flagsOf (csuReply rs) = 0
 flagsOf (csus rs) = 0

@@ -27,7 +27,8 @@ use Rattle.writer.specs.declared.write.Records.{Records}
 use Rattle.writer.specs.declared.write.Written.{Written}
 use Rattle.writer.specs.declared.write.Written.the-variants.{Octets, TooShort}
 use Rattle.writer.specs.declared.put.Lead.{Lead}
-use Rattle.writer.specs.Write.{recordOf, messageOf, helloMessage, Writes, leadOctets, helloLead, receiverLength, commonFields, commonOf, openingOf, recordFields, carriesPayload, carried, carriedOf, recordMost, summed, sealed, recordsPacket, Finishes}
+use Rattle.protocol.specs.Checks.{isRequest}
+use Rattle.writer.specs.Write.{recordOf, messageOf, helloMessage, Writes, leadOctets, helloLead, receiverLength, commonFields, commonOf, openingOf, recordFields, carried, carriedOf, recordMost, summed, sealed, recordsPacket, Finishes}
 
 -- ---- the fixed part and the checksum
 pub seal-part : (out : List ℕ) (n : ℕ) → 8 ≤ n → n ≤ length out
@@ -195,7 +196,7 @@ carried-count false l = length-map (map recordOf l) summaryOf ∙ length-map l r
 
 -- the records behind the opening, and the packet finished
 pub records-wrote : (k : Kind) (lead : Lead) (c : Common) (flags : ℕ) (r : Records) (out : List ℕ) {a b after : List ℕ} {whole : Bool} {count at n : ℕ}
-    → 284 ≤ length out → n ≤ length out → whole ≡ carriesPayload k → count ≡ length (take (r .count) (r .list))
+    → 284 ≤ length out → n ≤ length out → whole ≡ isRequest k → count ≡ length (take (r .count) (r .list))
     → Put (openingOf lead c flags 4 count) fixedSize out a at → Put (recordsOctets [] (carriedOf whole (take (r .count) (r .list)))) at a b n
     → Finishes k n b after → Writes (recordsPacket k lead c flags r) out after (Octets n)
 records-wrote k lead c flags r out {whole = whole} {count = count} h g w e p q f =

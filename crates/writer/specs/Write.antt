@@ -1,6 +1,6 @@
 -- What is written: the message of each writer, its contract, and the parts of which a packet is put together.
 -- Assumes nothing.
-use Prim.Native.Nat.{ℕ, _+_, _*_, _/_, _%_, _≤_}
+use Prim.Native.Nat.{ℕ, _+_, _/_, _%_, _≤_}
 use mathlib.Core.Path.{_≡_}
 use mathlib.Core.Bool.{Bool, true, false}
 use mathlib.Core.List.{List, [], _∷_, _++_, map}
@@ -9,14 +9,14 @@ use lib.ListN.{length, take, set}
 use Rattle.laws.specs.Choice.{pick}
 use Rattle.laws.specs.Puts.{written, Put}
 use Rattle.protocol.specs.declared.Kind.{Kind}
-use Rattle.protocol.specs.declared.Kind.the-variants.{Ca, CsuRequest, CsuReply, Csus, Hello}
 use Rattle.protocol.specs.declared.CaNumber.{CaNumber}
 use Rattle.protocol.specs.declared.CaFlags.{CaFlags}
 use Rattle.protocol.specs.Sizes.{idLength, packetMost, fixedSize}
 use Rattle.protocol.specs.Fields.{put2, put4}
 use Rattle.protocol.specs.Checksum.{checksumOf}
 use Rattle.protocol.specs.Messages.{CsaRecord, summaryOf, Body, ca, csuRequest, csuReply, csus, hello, Message}
-use Rattle.protocol.specs.Layouts.{bit, fixedPart, recordsOctets}
+use Rattle.protocol.specs.Layouts.{fixedPart, recordsOctets}
+use Rattle.protocol.specs.Checks.{isRequest}
 use Rattle.writer.specs.declared.write.Common.{Common}
 use Rattle.writer.specs.declared.write.CsaValue.{CsaValue}
 use Rattle.writer.specs.declared.write.Records.{Records}
@@ -83,9 +83,6 @@ helloLead interval factor = record { len = 8; octets = put2 interval (put2 facto
 abbrev pub receiverLength : Bool → ℕ
 receiverLength named = pick named idLength 0
 
-abbrev pub flagsField : CaFlags → ℕ
-flagsField f = bit (f .master) * 32768 + bit (f .initial) * 16384 + bit (f .more) * 8192
-
 -- without its IDs
 abbrev pub commonFields : ℕ → ℕ → ℕ → ℕ → ℕ → List ℕ
 commonFields protocol group flags len count = put2 protocol (put2 group (put2 0 (put2 flags (idLength ∷ len ∷ put2 count []))))
@@ -103,14 +100,6 @@ openingOf lead c flags len count = leadOctets lead ++ commonOf c flags len count
 abbrev pub recordFields : ℕ → ℕ → ℕ → ℕ → ℕ → List ℕ
 recordFields hops keyLength payloadLength flags bits =
     put2 hops (put2 (16 + keyLength + payloadLength) (keyLength ∷ idLength ∷ put2 flags (put4 bits [])))
-
--- whether the records of a type carry payloads
-abbrev pub carriesPayload : Kind → Bool
-carriesPayload Ca = false
-carriesPayload CsuRequest = true
-carriesPayload CsuReply = false
-carriesPayload Csus = false
-carriesPayload Hello = false
 
 -- a record whole, or its summary
 abbrev pub carried : Bool → CsaRecord → CsaRecord
@@ -139,7 +128,7 @@ sealed k b = fixedPart k (fixedSize + length b) (checksumOf (fixedPart k (fixedS
 abbrev pub recordsPacket : Kind → Lead → Common → ℕ → Records → List ℕ
 recordsPacket k lead c flags r =
     let l = take (r .count) (r .list) in
-    sealed k (openingOf lead c flags idLength (length l) ++ recordsOctets [] (carriedOf (carriesPayload k) l))
+    sealed k (openingOf lead c flags idLength (length l) ++ recordsOctets [] (carriedOf (isRequest k) l))
 
 -- what was put behind the place of the fixed part is a packet, at the start of the slice
 abbrev pub Finishes : Kind → ℕ → List ℕ → List ℕ → Type 0

@@ -7,7 +7,7 @@ ghost use Rattle.laws.specs.Puts.{Put, written};
 ghost use Rattle.protocol.specs.Checksum as checksums;
 ghost use Rattle.protocol.specs.Layouts as layouts;
 ghost use Rattle.protocol.specs.Messages.{summaryOf};
-ghost use Rattle.writer.specs.Write.{recordOf, flagsField, commonFields, commonOf, openingOf, recordFields, carried, carriedOf, recordMost, summed, Finishes};
+ghost use Rattle.writer.specs.Write.{recordOf, commonFields, commonOf, openingOf, recordFields, carried, carriedOf, recordMost, summed, Finishes};
 use crate::write::Common;
 use crate::write::CsaValue;
 use crate::write::Records;
@@ -44,7 +44,7 @@ fn bit(b: bool) -> u16
 
 // The M, I and O bits.
 pub fn flags_of(f: CaFlags) -> u16
-    ensures { λ r. ⌜ r ≡ flagsField f ⌝ }
+    ensures { λ r. ⌜ r ≡ layouts.flagsField f ⌝ }
 {
     bit(f.master) * 32768 + bit(f.initial) * 16384 + bit(f.more) * 8192
 }
