@@ -6,3 +6,5 @@ pub mod Tables
 pub mod Cells
 pub mod Puts
 pub mod Each
+pub mod Frames
+pub mod TableLaws

@@ -5,6 +5,7 @@ ghost use Prim.Native.Nat.{_+_, _≤_};
 ghost use lib.ListN.{length, take, drop};
 ghost use Rattle.laws.specs.Lists.{part};
 ghost use Rattle.laws.specs.Puts.{Put};
+ghost use Rattle.laws.specs.Tables as tables;
 ghost use Rattle.protocol.specs.Fields as fields;
 
 pub fn octet(p: &[u8], at: usize) -> u8
@@ -74,4 +75,21 @@ pub fn put_first(out: &mut [u8], at: usize, src: &[u8], n: usize) -> usize
     ensures { λ r. ⌜ Put (take n (now (src .entry))) at (now (out .entry)) (now (out .exit)) r ⌝ }
 {
     put(out, at, first(src, n))
+}
+
+// Whether two parts hold the same octets, compared where they lie.
+pub fn same(a: &[u8], b: &[u8]) -> bool
+    ensures { λ r. ⌜ r ≡ tables.same (now (a .entry)) (now (b .entry)) ⌝ }
+{
+    if a.len() != b.len() {
+        return false;
+    }
+    let mut i = 0;
+    while i < a.len() {
+        if a[i] != b[i] {
+            return false;
+        }
+        i += 1;
+    }
+    true
 }

@@ -1,0 +1,262 @@
+-- What the functions on a request list leave, from what those that they call leave.
+-- Assumes nothing.
+use Prim.Native.Nat.{ℕ, suc, _+_, _-_, _≤_, _<_, min}
+use mathlib.Core.Path.{_≡_, refl, sym, ap, _∙_, subst, fun-ext}
+use mathlib.Core.Bool.{Bool, true, false, not, _&&_}
+use mathlib.Core.List.{List, [], _∷_, _++_, append-nil}
+use native.Mathlib.Numerals.{add-one}
+use native.Mathlib.Omega.{arith}
+use lib.Dec.{ltb}
+use lib.ListN.{length, take, drop, getD, set, length-take}
+use lib.Seq.{getD-take, take-set-lt, take-suc-set}
+use borrow.Author.Tests.{lt-ltb, le-ltb}
+use Rattle.laws.specs.Choice.{pick}
+use Rattle.laws.specs.Tables.{has, change, without}
+use Rattle.laws.proofs.Lists.{take-taken}
+use Rattle.protocol.specs.declared.CsaNumber.{CsaNumber}
+use Rattle.protocol.specs.Fields.{field2}
+use Rattle.protocol.specs.Numbers.{newer}
+use Rattle.rules.specs.Server.{Entry, Request}
+use Rattle.rules.specs.Requests.{asks, raised, join, Wanted, dropped, rotated}
+use Rattle.memory.specs.Layout.{listPlace}
+use Rattle.memory.specs.Memory.{requestIn, requestsIn, Memory, memoryOf, withRequests, requestsOf}
+use Rattle.memory.specs.Lists.{roomsIn, noRequest, Listed, placeOf, goes, Joins, Sifts, movedUp, turned}
+use Rattle.memory.proofs.Rooms.{rooms-length, rooms-get, requests-in, requests-of, listed-none, listed-then, listed-requests, listed-memory}
+use Rattle.memory.proofs.RoomReads.{room-is, raised-newer, raised-not}
+use Rattle.memory.proofs.RequestLists.{place-hit, place-miss, placed, nowhere, Sifted, sifted-none, sifted-more, moved-more, turned-set, turned-take, turn-more, turn-end}
+
+-- ---- one change after another
+module _ {k n : ℕ} {l : List Request} {s t : List ℕ} (p : Listed k n l s t) where
+  -- the second says what it leaves by what it finds
+  pub then-moved : (u : List ℕ) (f : List Request → List Request) → Listed k (field2 t (listPlace k)) (f (roomsIn t k)) t u → Listed k n (f l) s u
+  then-moved u f q = record { used = q .used ∙ p .used; held = q .held ∙ ap f (p .held); others = listed-then p q .others }
+
+  pub then-sized : (u : List ℕ) (m : ℕ) → Listed k m (roomsIn t k) t u → Listed k m l s u
+  then-sized u m q = record { used = q .used; held = q .held ∙ p .held; others = listed-then p q .others }
+
+  -- whatever it leaves
+  pub then-any : (u : List ℕ) (r : List Request) → Listed k (field2 t (listPlace k)) r t u → Listed k n (roomsIn u k) s u
+  then-any u r q = record { used = q .used ∙ p .used; held = refl; others = listed-then p q .others }
+
+pub rooms-are : {k n : ℕ} {l : List Request} {s t : List ℕ} (r : List Request) → l ≡ r → Listed k n l s t → Listed k n r s t
+rooms-are {k} {n} {l} {s} {t} r e p = record { used = p .used; held = p .held ∙ e; others = p .others }
+
+-- ---- a list and its rooms
+module _ (s : List ℕ) (k : ℕ) where
+  few : (i : ℕ) → i < length (requestsIn s k) → i < field2 s (listPlace k)
+  few i h =
+      let e : length (requestsIn s k) ≡ min (field2 s (listPlace k)) (length (roomsIn s k)) =
+      ap length (requests-in s k) ∙ length-take (field2 s (listPlace k)) (roomsIn s k) in
+      omega arith
+
+  pub list-get : (i : ℕ) → i < length (requestsIn s k) → getD (requestsIn s k) i noRequest ≡ getD (roomsIn s k) i noRequest
+  list-get i h = ap (λ (z : List Request). getD z i noRequest) (requests-in s k) ∙ getD-take (field2 s (listPlace k)) (roomsIn s k) i noRequest (few i h)
+
+  -- the first n rooms, where n are in use
+  pub list-take : (n : ℕ) → n ≡ length (requestsIn s k) → take n (roomsIn s k) ≡ requestsIn s k
+  list-take n e =
+      ap (λ (z : ℕ). take z (roomsIn s k)) (e ∙ ap length (requests-in s k)) ∙ take-taken (field2 s (listPlace k)) (roomsIn s k) .1
+      ∙ sym (requests-in s k)
+
+  pub list-set : (i : ℕ) (x : Request) → i < length (requestsIn s k) → take (field2 s (listPlace k)) (set (roomsIn s k) i x) ≡ set (requestsIn s k) i x
+  list-set i x h =
+      take-set-lt (field2 s (listPlace k)) (roomsIn s k) i x (few i h) ∙ ap (λ (z : List Request). set z i x) (sym (requests-in s k))
+
+-- ---- the first for an entry
+module _ (s : List ℕ) (k n i : ℕ) (e : Entry) (a : Bool) (long : n ≡ length (requestsIn s k))
+    (so : placeOf (asks e) (requestsIn s k) ≡ i + placeOf (asks e) (drop i (requestsIn s k))) where
+  tested : i < n → a ≡ asks e (getD (roomsIn s k) i noRequest) → asks e (getD (requestsIn s k) i noRequest) ≡ a
+  tested h f = ap (asks e) (list-get s k i (omega arith)) ∙ sym f
+
+  pub find-hit : i < n → a ≡ asks e (getD (roomsIn s k) i noRequest) → a ≡ true → i ≡ placeOf (asks e) (requestsIn s k)
+  find-hit h f g = sym (place-hit (asks e) noRequest (requestsIn s k) i (omega arith) (tested h f ∙ g) so)
+
+  pub find-miss : i < n → a ≡ asks e (getD (roomsIn s k) i noRequest) → a ≡ false
+      → placeOf (asks e) (requestsIn s k) ≡ i + 1 + placeOf (asks e) (drop (i + 1) (requestsIn s k))
+  find-miss h f g = place-miss (asks e) noRequest (requestsIn s k) i (omega arith) (tested h f ∙ g) so
+
+-- ---- a number raised
+module _ (s t : List ℕ) (k i : ℕ) (e : Entry) (n m : CsaNumber) (r : Bool) (room : i < 64) (is : m ≡ requestIn s k i .number) where
+  number-room : m ≡ getD (roomsIn s k) i noRequest .number
+  number-room = is ∙ ap (λ (q : Request). q .number) (sym (rooms-get s k i room))
+
+  pub raise-done : r ≡ newer n m → r ≡ true → asks e (getD (roomsIn s k) i noRequest) ≡ true
+      → Listed k (field2 s (listPlace k)) (set (roomsIn s k) i (record { entry = e; number = n })) s t
+      → Listed k (field2 s (listPlace k)) (set (roomsIn s k) i (raised n (getD (roomsIn s k) i noRequest))) s t
+  raise-done f g h p =
+      room-is k (field2 s (listPlace k)) i (roomsIn s k) s t (record { entry = e; number = n }) (raised n (getD (roomsIn s k) i noRequest))
+      (raised-newer e n (getD (roomsIn s k) i noRequest) h (ap (newer n) (sym number-room) ∙ sym f ∙ g)) p
+
+  pub raise-not : k < 8 → r ≡ newer n m → r ≡ false
+      → Listed k (field2 s (listPlace k)) (set (roomsIn s k) i (raised n (getD (roomsIn s k) i noRequest))) s s
+  raise-not slot f g = raised-not s k i n slot (ap (newer n) (sym number-room) ∙ sym f ∙ g)
+
+  -- ---- whether a request goes; here n is the number to compare with
+  pub goes-by : (all : Bool) (a : Bool) → a ≡ asks e (getD (roomsIn s k) i noRequest) → a ≡ true → all ≡ false → r ≡ newer m n
+      → not r ≡ goes all e n (getD (roomsIn s k) i noRequest)
+  goes-by all a f g h j =
+      let x : asks e (getD (roomsIn s k) i noRequest) ≡ true = sym f ∙ g in
+      rw (x, h) (ap not (j ∙ ap (λ (z : CsaNumber). newer z n) number-room))
+
+pub goes-all : (all a : Bool) (e : Entry) (n : CsaNumber) (q : Request) → a ≡ asks e q → a ≡ true → all ≡ true → true ≡ goes all e n q
+goes-all all a e n q f g h = let x : asks e q ≡ true = sym f ∙ g in rw (x, h)
+
+pub goes-not : (all a : Bool) (e : Entry) (n : CsaNumber) (q : Request) → a ≡ asks e q → a ≡ false → false ≡ goes all e n q
+goes-not all a e n q f g = let x : asks e q ≡ false = sym f ∙ g in rw x
+
+and-all : (b : Bool) → (b && true) ≡ b
+and-all true = refl
+and-all false = refl
+
+-- all go, whatever the number
+pub goes-dropped : (k : ℕ) (e : Entry) (n : CsaNumber) (m m′ : Memory) → m′ ≡ withRequests k (without (goes true e n) (requestsOf m k)) m
+    → m′ ≡ withRequests k (dropped e (requestsOf m k)) m
+goes-dropped k e n m m′ h = h ∙ ap (λ (p : Request → Bool). withRequests k (without p (requestsOf m k)) m) (fun-ext (λ q. and-all (asks e q)))
+
+-- ---- joining
+module _ (e : Entry) (n : CsaNumber) (l : List Request) (missed : ℕ) where
+  join-has : has (asks e) l ≡ true
+      → join e n (record { requests = l; missed = missed }) ≡ record { requests = change (asks e) (raised n) l; missed = missed }
+  join-has h = rw h
+
+  join-adds : has (asks e) l ≡ false → length l < 64
+      → join e n (record { requests = l; missed = missed }) ≡ record { requests = l ++ (record { entry = e; number = n } ∷ []); missed = missed }
+  join-adds h g = rw (h, lt-ltb (length l) 64 g)
+
+  join-misses : has (asks e) l ≡ false → 64 ≤ length l
+      → join e n (record { requests = l; missed = missed }) ≡ record { requests = l; missed = pick (ltb missed 65535) (suc missed) missed }
+  join-misses h g = rw (h, le-ltb (length l) 64 g)
+
+module _ (s : List ℕ) (k : ℕ) (slot : k < 8) (e : Entry) (n : CsaNumber) (missed m i : ℕ) (long : m ≡ length (requestsIn s k))
+    (found : i ≡ placeOf (asks e) (requestsIn s k)) where
+  there : i < m → placeOf (asks e) (requestsIn s k) < length (requestsIn s k)
+  there h = omega arith
+
+  pub join-asks : i < m → asks e (getD (roomsIn s k) i noRequest) ≡ true
+  join-asks h =
+      ap (asks e) (sym (list-get s k i (omega arith)) ∙ ap (λ (z : ℕ). getD (requestsIn s k) z noRequest) found)
+      ∙ placed (asks e) noRequest (requestsIn s k) (there h) .passes
+
+  -- what it comes to, of the list that the rules speak of
+  joined : (t : List ℕ) (l : List Request) (r : ℕ) → requestsIn t k ≡ l → memoryOf t ≡ withRequests k (requestsIn t k) (memoryOf s)
+      → join e n (record { requests = requestsIn s k; missed = missed }) ≡ record { requests = l; missed = r } → Joins k e n missed s t r
+  joined t l r a b c =
+      let f : join e n (record { requests = requestsOf (memoryOf s) k; missed = missed }) ≡ record { requests = l; missed = r } =
+      ap (λ (z : List Request). join e n (record { requests = z; missed = missed })) (requests-of s k slot) ∙ c in
+      record {
+        list = b ∙ ap (λ (z : List Request). withRequests k z (memoryOf s)) (a ∙ sym (ap (λ (w : Wanted). w .requests) f));
+        count = sym (ap (λ (w : Wanted). w .missed) f);
+      }
+
+  pub join-found : (t : List ℕ) → i < m
+      → Listed k (field2 s (listPlace k)) (set (roomsIn s k) i (raised n (getD (roomsIn s k) i noRequest))) s t → Joins k e n missed s t missed
+  join-found t h p =
+      let l : List Request = requestsIn s k in
+      let P = placed (asks e) noRequest l (there h) in
+      let f : requestsIn t k ≡ change (asks e) (raised n) l =
+      listed-requests p ∙ list-set s k i (raised n (getD (roomsIn s k) i noRequest)) (omega arith)
+      ∙ ap (λ (q : Request). set l i (raised n q)) (sym (list-get s k i (omega arith)))
+      ∙ ap (λ (z : ℕ). set l z (raised n (getD l z noRequest))) found ∙ sym (P .changes (raised n)) in
+      joined t (change (asks e) (raised n) l) missed f (p .others) (join-has e n l missed (P .there))
+
+  pub join-new : (t : List ℕ) → m ≤ i → m < 64 → Listed k (m + 1) (set (roomsIn s k) m (record { entry = e; number = n })) s t → Joins k e n missed s t missed
+  join-new t h g p =
+      let l : List Request = requestsIn s k in
+      let x : Request = record { entry = e; number = n } in
+      let room : m < length (roomsIn s k) = omega (arith, rooms-length s k) in
+      let f : requestsIn t k ≡ l ++ (x ∷ []) =
+      listed-requests p ∙ ap (λ (z : ℕ). take z (set (roomsIn s k) m x)) (add-one m) ∙ take-suc-set (roomsIn s k) m x room
+      ∙ ap (λ (z : List Request). z ++ (x ∷ [])) (list-take s k m long) in
+      joined t (l ++ (x ∷ [])) missed f (p .others) (join-adds e n l missed (nowhere (asks e) noRequest l (omega arith)) (omega arith))
+
+  pub join-full : (r : ℕ) → m ≤ i → 64 ≤ m → r ≡ pick (ltb missed 65535) (suc missed) missed → Joins k e n missed s s r
+  join-full r h g c =
+      let l : List Request = requestsIn s k in
+      subst (Joins k e n missed s s) (sym c)
+      (joined s l (pick (ltb missed 65535) (suc missed) missed) refl (listed-none s k slot .others)
+      (join-misses e n l missed (nowhere (asks e) noRequest l (omega arith)) (omega arith)))
+
+-- ---- those that go
+module _ (s t : List ℕ) (k : ℕ) (p : Request → Bool) (i w : ℕ) (r : Bool) (is : r ≡ p (getD (roomsIn s k) i noRequest)) where
+  pub sift-gone : k < 8 → r ≡ true → Sifts k p i w s s w
+  sift-gone slot g = let x : p (getD (roomsIn s k) i noRequest) ≡ true = sym is ∙ g in record { next = rw x; list = rw x (listed-none s k slot) }
+
+  pub sift-stays : r ≡ false → Listed k (field2 s (listPlace k)) (set (roomsIn s k) w (getD (roomsIn s k) i noRequest)) s t → Sifts k p i w s t (w + 1)
+  sift-stays g q = let x : p (getD (roomsIn s k) i noRequest) ≡ false = sym is ∙ g in record { next = rw (x, add-one); list = rw x q }
+
+-- so far: the first i of the list are gone through
+pub record Sifting (k : ℕ) (p : Request → Bool) (i w : ℕ) (s t : List ℕ) : Type 0 where
+  pub list : Listed k (field2 s (listPlace k)) (roomsIn t k) s t
+  pub rooms : Sifted p noRequest (roomsIn s k) (roomsIn t k) i w
+
+pub sifting-none : (k : ℕ) (p : Request → Bool) (s : List ℕ) → k < 8 → Sifting k p 0 0 s s
+sifting-none k p s slot = record { list = listed-none s k slot; rooms = sifted-none p noRequest (roomsIn s k) }
+
+pub sifting-more : (k : ℕ) (p : Request → Bool) (i w r : ℕ) (s t u : List ℕ) → i < 64 → Sifting k p i w s t → Sifts k p i w t u r → Sifting k p (i + 1) r s u
+sifting-more k p i w r s t u h so q =
+    let a = sifted-more p noRequest (roomsIn s k) (roomsIn t k) i w (omega (arith, rooms-length s k)) (so .rooms) in
+    record {
+      list = then-any (so .list) u (roomsIn u k) (record { used = q .list .used; held = refl; others = q .list .others });
+      rooms = rw (q .list .held, q .next, add-one i) a;
+    }
+
+pub sift-end : (k : ℕ) (p : Request → Bool) (n i w : ℕ) (s t u : List ℕ) → k < 8 → n ≡ length (requestsIn s k) → i ≡ n → Sifting k p i w s t
+    → Listed k w (roomsIn t k) t u → memoryOf u ≡ withRequests k (without p (requestsOf (memoryOf s) k)) (memoryOf s)
+sift-end k p n i w s t u slot long all so q =
+    listed-memory (then-sized (so .list) u w q)
+    ∙ ap (λ (z : List Request). withRequests k z (memoryOf s))
+    (so .rooms .front ∙ ap (λ (j : ℕ). without p (take j (roomsIn s k))) all
+    ∙ ap (without p) (list-take s k n long ∙ sym (requests-of s k slot)))
+
+-- ---- the first one to the end
+pub move-more : (k n i : ℕ) (s t u : List ℕ) → i + 1 < 64 → Listed k n (movedUp i (roomsIn s k)) s t
+    → Listed k (field2 t (listPlace k)) (set (roomsIn t k) i (getD (roomsIn t k) (i + 1) noRequest)) t u → Listed k n (movedUp (i + 1) (roomsIn s k)) s u
+move-more k n i s t u h p q =
+    let e : i + 1 ≡ suc i = add-one i in
+    let l : List Request = roomsIn s k in
+    let m : List Request = movedUp i l in
+    rooms-are (movedUp (i + 1) l)
+    (ap (λ (j : ℕ). set m i (getD m j noRequest)) e ∙ moved-more noRequest l i (omega (arith, rooms-length s k)) ∙ ap (λ (j : ℕ). movedUp j l) (sym e))
+    (then-moved p u (λ r. set r i (getD r (i + 1) noRequest)) q)
+
+pub turn-done : (k n last : ℕ) (x : Request) (s t u : List ℕ) → last < 64 → x ≡ getD (roomsIn s k) 0 noRequest → Listed k n (movedUp last (roomsIn s k)) s t
+    → Listed k (field2 t (listPlace k)) (set (roomsIn t k) last x) t u → Listed k n (turned last (roomsIn s k)) s u
+turn-done k n last x s t u h e p q =
+    let l : List Request = roomsIn s k in
+    rooms-are (turned last l)
+    (turned-set noRequest l last x (omega (arith, rooms-length s k)) ∙ ap (λ (y : Request). take last (drop 1 l) ++ (y ∷ drop (suc last) l)) e)
+    (then-moved p u (λ r. set r last x) q)
+
+-- so far: the first i of n have moved to the end
+pub record Turning (k n i : ℕ) (s t : List ℕ) : Type 0 where
+  pub list : Listed k (field2 s (listPlace k)) (roomsIn t k) s t
+  pub rooms : take n (roomsIn t k) ≡ drop i (requestsIn s k) ++ take i (requestsIn s k)
+
+pub turning-none : (k n : ℕ) (s : List ℕ) → k < 8 → n ≡ length (requestsIn s k) → Turning k n 0 s s
+turning-none k n s slot long = record { list = listed-none s k slot; rooms = list-take s k n long ∙ sym (append-nil (requestsIn s k)) }
+
+pub turning-more : (k n i : ℕ) (s t u : List ℕ) → n ≤ 64 → n ≡ length (requestsIn s k) → i < n → Turning k n i s t
+    → Listed k (field2 t (listPlace k)) (turned (n - 1) (roomsIn t k)) t u → Turning k n (i + 1) s u
+turning-more k n i s t u few-enough long h so q =
+    let l : List Request = requestsIn s k in
+    let r : List Request = roomsIn t k in
+    let e : n ≡ suc (n - 1) = omega arith in
+    record {
+      list = then-any (so .list) u (turned (n - 1) r) q;
+      rooms =
+          (λ j. take (e j) (q .held j)) ∙ turned-take noRequest r (n - 1) (omega (arith, rooms-length t k))
+          ∙ ap (λ (m : ℕ). drop 1 (take m r) ++ take 1 (take m r)) (sym e) ∙ ap (λ (z : List Request). drop 1 z ++ take 1 z) (so .rooms)
+          ∙ turn-more noRequest l i (omega arith) ∙ ap (λ (m : ℕ). drop m l ++ take m l) (sym (add-one i));
+    }
+
+pub turning-end : (k n i : ℕ) (s t : List ℕ) → k < 8 → n ≡ length (requestsIn s k) → i ≡ min 4 n → Turning k n i s t
+    → memoryOf t ≡ withRequests k (rotated (requestsOf (memoryOf s) k)) (memoryOf s)
+turning-end k n i s t slot long all so =
+    let l : List Request = requestsIn s k in
+    let f : ℕ = field2 s (listPlace k) in
+    let r : List Request = roomsIn t k in
+    let e : length (take f r) ≡ n =
+    length-take f r ∙ ap (min f) (rooms-length t k ∙ sym (rooms-length s k)) ∙ sym (length-take f (roomsIn s k)) ∙ ap length (sym (requests-in s k)) ∙ sym long in
+    listed-memory (so .list)
+    ∙ ap (λ (z : List Request). withRequests k z (memoryOf s))
+    (sym (take-taken f r .1) ∙ ap (λ (m : ℕ). take m r) e ∙ so .rooms ∙ turn-end l i (all ∙ ap (min 4) long) ∙ ap rotated (sym (requests-of s k slot)))

@@ -1,0 +1,22 @@
+use Rattle.memory.proofs.EntryLaws.{held-found, held-none}
+use Rattle.memory.proofs.RowInsert.{found-below}
+use Rattle.memory.specs.declared.entries.Held.the-variants.{Number}
+use Rattle.memory.specs.Search.{entry}
+use Rattle.rules.specs.Server.{holds}
+use mathlib.Core.Path.{sym, ap, _∙_}
+use borrow.Author.Needs.{needs}
+use Rattle.memory.proofs.entries.holds_number.Statement.{statement}
+use Rattle.memory.proofs.entries.holds_number.Tie as tie
+
+number-of-requires : tie.Need-number-of-requires
+number-of-requires c κs = let a = c .before .before .before .before .before .before .before .args in let i = c .before .i .given in (c .before .before .before .before .before .before .before .pre, found-below (holds (entry (a .key .now) (a .originator .now))) (a .memory .now) (i .0 .0) (sym (c .before .before .before .find .ensures) ∙ i .1))
+
+returns : tie.Need-returns
+returns c = let a = c .before .before .before .before .before .before .before .before .args in let i = c .before .before .i .given in ap Number (c .number-of .ensures) ∙ held-found (entry (a .key .now) (a .originator .now)) (a .memory .now) (i .0 .0) (sym (c .before .before .before .before .find .ensures) ∙ i .1)
+
+returns-2 : tie.Need-returns-2
+returns-2 c = let a = c .before .before .before .before .before .before .args in held-none (entry (a .key .now) (a .originator .now)) (a .memory .now) (sym (c .before .before .find .ensures) ∙ c .enum-told .given .1)
+
+pub holds-number-spec : {M : Type 1} → statement M
+holds-number-spec =
+    tie.close (tie.spec (λ c κs. search needs) (λ c. search needs) number-of-requires (λ c. search needs) returns returns-2)

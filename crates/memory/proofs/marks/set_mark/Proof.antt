@@ -1,0 +1,23 @@
+use Rattle.memory.proofs.MarkLaws.{changed-as, marks-on, row-marked}
+use Rattle.memory.specs.Marks.{withMarks, marked}
+use Rattle.memory.specs.Memory.{isMarked}
+use mathlib.Core.Bool.{true}
+use mathlib.Core.Path.{_∙_}
+use borrow.Author.Needs.{needs}
+use Rattle.memory.proofs.marks.set_mark.Statement.{statement}
+use Rattle.memory.proofs.marks.set_mark.Tie as tie
+
+returns : tie.Need-returns
+returns c =
+    let a = c .before .before .before .before .before .before .before .before .args in
+    let s = a .memory .now in
+    let h = c .before .before .before .before .before .before .before .before .pre .1 .0 in
+    let r = c .before .before .before .before .with-mark .result in
+    c .before .before .put-marks .ensures .rows
+    ∙ changed-as (withMarks (isMarked r)) (marked (a .k)) s (a .i)
+    (marks-on s (a .i) h (a .k) (c .before .before .before .before .before .marks-of .result) r true (c .before .before .before .before .before .marks-of .ensures) (c .before .before .before .before .with-mark .ensures) ∙ row-marked s (a .i) h (a .k))
+
+pub set-mark-spec : {M : Type 1} → statement M
+set-mark-spec =
+    tie.close
+    (tie.spec (λ c κs. search needs) (λ c κs. search needs) (λ c κs. search needs) (λ c. search needs) returns)

@@ -1,0 +1,28 @@
+use Rattle.memory.proofs.RequestSteps.{sift-gone, sift-stays}
+use Rattle.memory.specs.Search.{entry}
+use Rattle.memory.specs.Lists.{goes}
+use borrow.Author.Needs.{needs}
+use Rattle.memory.proofs.requests.sift_one.Statement.{statement}
+use Rattle.memory.proofs.requests.sift_one.Tie as tie
+
+returns : tie.Need-returns
+returns c =
+    let a = c .before .before .before .before .before .before .args in
+    sift-gone (a .memory .now) (a .memory .now) (a .k) (goes (a .all) (entry (a .key .now) (a .originator .now)) (a .number)) (a .i) (a .w) (c .before .goes .result) (c .before .goes .ensures) (c .before .before .before .before .before .before .pre .0) (c .if1 .taken)
+
+returns-2 : tie.Need-returns-2
+returns-2 c =
+    let a = c .before .before .before .before .before .before .before .before .before .before .args in
+    sift-stays (a .memory .now) (c .before .before .copy-request .last .0) (a .k) (goes (a .all) (entry (a .key .now) (a .originator .now)) (a .number)) (a .i) (a .w) (c .before .before .before .before .before .goes .result) (c .before .before .before .before .before .goes .ensures) (c .before .before .before .before .if1 .left) (c .before .before .copy-request .ensures)
+
+pub sift-one-spec : {M : Type 1} → statement M
+sift-one-spec =
+    tie.close
+    (tie.spec
+    (λ c κs. search needs)
+    (λ c. search needs)
+    returns
+    (λ c κs. search needs)
+    (λ c. search needs)
+    (λ c. search needs)
+    returns-2)

@@ -1,0 +1,217 @@
+// Entries, as the rules speak of them: records stored or answered, changes of ours, and what is held.
+ghost use mathlib.Core.Path.{_≡_};
+ghost use Prim.Native.Nat.{_-_, _≤_, _<_};
+ghost use lib.ListN.{length};
+ghost use Rattle.laws.specs.Tables as tables;
+ghost use Rattle.protocol.specs.Sizes.{payloadMost};
+ghost use Rattle.protocol.specs.Numbers as definition;
+ghost use Rattle.rules.specs.Server as server;
+ghost use Rattle.rules.specs.Server.{slotsMost, rowsMost, holds};
+ghost use Rattle.rules.specs.Rows.{unmarked};
+ghost use Rattle.rules.specs.Requests.{upToDate};
+ghost use Rattle.rules.specs.Updates.{value, stepped, changedRow, purgedRow, setRows, withdrawRows, purgeRows, stored, owed, rowsBy, replied};
+ghost use Rattle.memory.specs.Layout.{memorySize};
+ghost use Rattle.memory.specs.Memory.{isMarked, rowIn, rowsIn, memoryOf};
+ghost use Rattle.memory.specs.Search.{entry, withRow, FitsRow};
+ghost use Rattle.memory.specs.Entries.{received, rowsAs, putRows, heldNumber};
+use crate::marks;
+use crate::rows;
+use crate::rows::Found;
+use crate::store;
+use protocol::CsaNumber;
+use protocol::Step;
+
+pub enum Held {
+    Number(CsaNumber),
+    Absent,
+}
+
+// ---- records of a CSU Request from slot k
+fn one_less(hops: u16) -> u16
+    ensures { λ r. ⌜ r ≡ hops - 1 ⌝ }
+{
+    if hops == 0 {
+        return 0;
+    }
+    hops - 1
+}
+
+fn put_entry(
+    memory: &mut [u8],
+    key: &[u8],
+    originator: &[u8],
+    number: CsaNumber,
+    payload: &[u8],
+    remaining: u16,
+    marks: u8,
+)
+    requires { ⌜ (length (now memory) ≡ memorySize) × FitsRow (now key) (now originator) (now payload) ⌝ }
+    ensures { λ _. ⌜ memoryOf (now (memory .exit)) ≡ rowsAs (putRows (entry (now (key .entry)) (now (originator .entry))) (value number (now (payload .entry)) remaining) (isMarked marks)) (now (memory .entry)) ⌝ }
+{
+    match rows::find(memory, key, originator) {
+        Found::At(i) => store::put_value(memory, i, number, payload, remaining, marks),
+        Found::Nothing => {
+            store::insert(memory, key, originator, number, payload, remaining, marks);
+        }
+    }
+}
+
+// A record is stored: one hop less, and it waits for the other live slots. Without a free row nothing is.
+pub fn store_record(
+    memory: &mut [u8],
+    live: u8,
+    k: usize,
+    key: &[u8],
+    originator: &[u8],
+    number: CsaNumber,
+    payload: &[u8],
+    hops: u16,
+)
+    requires { ⌜ (length (now memory) ≡ memorySize) × ((k < slotsMost) × FitsRow (now key) (now originator) (now payload)) ⌝ }
+    ensures { λ _. ⌜ memoryOf (now (memory .exit)) ≡ rowsAs (rowsBy stored (isMarked live) k (received hops number (entry (now (key .entry)) (now (originator .entry))) (now (payload .entry)))) (now (memory .entry)) ⌝ }
+{
+    let remaining = one_less(hops);
+    let marks = marks::spread_of(live, k, remaining);
+    put_entry(memory, key, originator, number, payload, remaining, marks);
+}
+
+// A record equal to what is held: the row waits for slot k no more.
+pub fn equal_record(memory: &mut [u8], k: usize, key: &[u8], originator: &[u8])
+    requires { ⌜ (length (now memory) ≡ memorySize) × (k < slotsMost) ⌝ }
+    ensures { λ _. ⌜ memoryOf (now (memory .exit)) ≡ rowsAs (tables.change (holds (entry (now (key .entry)) (now (originator .entry)))) (unmarked k)) (now (memory .entry)) ⌝ }
+{
+    match rows::find(memory, key, originator) {
+        Found::At(i) => marks::clear_mark(memory, i, k),
+        Found::Nothing => {}
+    }
+}
+
+// A record older than what is held: slot k is owed the row.
+pub fn older_record(memory: &mut [u8], k: usize, key: &[u8], originator: &[u8])
+    requires { ⌜ (length (now memory) ≡ memorySize) × (k < slotsMost) ⌝ }
+    ensures { λ _. ⌜ memoryOf (now (memory .exit)) ≡ rowsAs (tables.change (holds (entry (now (key .entry)) (now (originator .entry)))) (owed k)) (now (memory .entry)) ⌝ }
+{
+    match rows::find(memory, key, originator) {
+        Found::At(i) => marks::owe(memory, i, k),
+        Found::Nothing => {}
+    }
+}
+
+// ---- a record of a CSU Reply from slot k
+pub fn reply_record(memory: &mut [u8], k: usize, key: &[u8], originator: &[u8], number: CsaNumber)
+    requires { ⌜ (length (now memory) ≡ memorySize) × (k < slotsMost) ⌝ }
+    ensures { λ _. ⌜ memoryOf (now (memory .exit)) ≡ rowsAs (tables.change (holds (entry (now (key .entry)) (now (originator .entry)))) (replied k number)) (now (memory .entry)) ⌝ }
+{
+    match rows::find(memory, key, originator) {
+        Found::At(i) => marks::settle(memory, i, k, number),
+        Found::Nothing => {}
+    }
+}
+
+// ---- changes of ours: they wait for every live slot
+fn step_of(n: CsaNumber) -> CsaNumber
+    ensures { λ r. ⌜ r ≡ stepped n (definition.nextCsa n) ⌝ }
+{
+    match numbers::next_csa(n) {
+        Step::Number(m) => m,
+        Step::Spent => n,
+    }
+}
+
+fn change_row(memory: &mut [u8], live: u8, i: usize, payload: &[u8])
+    requires { ⌜ (length (now memory) ≡ memorySize) × ((i < rowsMost) × (length (now payload) ≤ payloadMost)) ⌝ }
+    ensures { λ _. ⌜ memoryOf (now (memory .exit)) ≡ withRow (now (memory .entry)) i (changedRow (isMarked live) (now (payload .entry)) (rowIn (now (memory .entry)) i)) ⌝ }
+{
+    let held = rows::number_of(memory, i);
+    let number = step_of(held);
+    store::put_value(memory, i, number, payload, 16, live);
+}
+
+fn purge_row(memory: &mut [u8], live: u8, i: usize)
+    requires { ⌜ (length (now memory) ≡ memorySize) × (i < rowsMost) ⌝ }
+    ensures { λ _. ⌜ memoryOf (now (memory .exit)) ≡ withRow (now (memory .entry)) i (purgedRow (isMarked live) (rowIn (now (memory .entry)) i)) ⌝ }
+{
+    let none = [0u8; 0];
+    store::put_value(memory, i, CsaNumber(2147483647), &none, 16, live);
+}
+
+// An entry of ours: new, or with another payload.
+pub fn set_entry(memory: &mut [u8], live: u8, key: &[u8], originator: &[u8], payload: &[u8])
+    requires { ⌜ (length (now memory) ≡ memorySize) × FitsRow (now key) (now originator) (now payload) ⌝ }
+    ensures { λ _. ⌜ memoryOf (now (memory .exit)) ≡ rowsAs (setRows (isMarked live) (entry (now (key .entry)) (now (originator .entry))) (now (payload .entry))) (now (memory .entry)) ⌝ }
+{
+    match rows::find(memory, key, originator) {
+        Found::At(i) => change_row(memory, live, i, payload),
+        Found::Nothing => {
+            store::insert(
+                memory,
+                key,
+                originator,
+                CsaNumber(-2147483647),
+                payload,
+                16,
+                live,
+            );
+        }
+    }
+}
+
+// The payload becomes empty; the row is kept.
+pub fn withdraw_entry(memory: &mut [u8], live: u8, key: &[u8], originator: &[u8])
+    requires { ⌜ length (now memory) ≡ memorySize ⌝ }
+    ensures { λ _. ⌜ memoryOf (now (memory .exit)) ≡ rowsAs (withdrawRows (isMarked live) (entry (now (key .entry)) (now (originator .entry)))) (now (memory .entry)) ⌝ }
+{
+    let none = [0u8; 0];
+    match rows::find(memory, key, originator) {
+        Found::At(i) => change_row(memory, live, i, &none),
+        Found::Nothing => {}
+    }
+}
+
+// The entry gets the last number, and no payload.
+pub fn purge_entry(memory: &mut [u8], live: u8, key: &[u8], originator: &[u8])
+    requires { ⌜ length (now memory) ≡ memorySize ⌝ }
+    ensures { λ _. ⌜ memoryOf (now (memory .exit)) ≡ rowsAs (purgeRows (isMarked live) (entry (now (key .entry)) (now (originator .entry)))) (now (memory .entry)) ⌝ }
+{
+    match rows::find(memory, key, originator) {
+        Found::At(i) => purge_row(memory, live, i),
+        Found::Nothing => {}
+    }
+}
+
+// ---- what is held
+// The number of the first row that holds the entry.
+pub fn holds_number(memory: &[u8], key: &[u8], originator: &[u8]) -> Held
+    requires { ⌜ length (now memory) ≡ memorySize ⌝ }
+    ensures { λ r. ⌜ r ≡ heldNumber (tables.find (holds (entry (now (key .entry)) (now (originator .entry)))) server.free (rowsIn (now (memory .entry)))) ⌝ }
+{
+    match rows::find(memory, key, originator) {
+        Found::At(i) => Held::Number(rows::number_of(memory, i)),
+        Found::Nothing => Held::Absent,
+    }
+}
+
+fn row_up_to_date(memory: &[u8], i: usize, key: &[u8], originator: &[u8], number: CsaNumber) -> bool
+    requires { ⌜ (length (now memory) ≡ memorySize) × (i < rowsMost) ⌝ }
+    ensures { λ r. ⌜ r ≡ upToDate (entry (now (key .entry)) (now (originator .entry))) number (rowIn (now (memory .entry)) i) ⌝ }
+{
+    if !rows::row_is(memory, i, key, originator) {
+        return false;
+    }
+    !numbers::newer(number, rows::number_of(memory, i))
+}
+
+// Whether a row holds the entry with a number no smaller.
+pub fn is_up_to_date(memory: &[u8], key: &[u8], originator: &[u8], number: CsaNumber) -> bool
+    requires { ⌜ length (now memory) ≡ memorySize ⌝ }
+    ensures { λ r. ⌜ r ≡ tables.has (upToDate (entry (now (key .entry)) (now (originator .entry))) number) (rowsIn (now (memory .entry))) ⌝ }
+{
+    let mut i: usize = 0;
+    while i < 64 {
+        if row_up_to_date(memory, i, key, originator, number) {
+            return true;
+        }
+        i += 1;
+    }
+    false
+}

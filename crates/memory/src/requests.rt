@@ -1,0 +1,356 @@
+// The request lists: of each slot the entries that its peer has and we want, 64 at most.
+ghost use mathlib.Core.Path.{_≡_};
+ghost use mathlib.Core.Bool.{true};
+ghost use mathlib.Core.List.{[]};
+ghost use Prim.Native.Nat.{suc, _+_, _≤_, _<_, min};
+ghost use lib.Dec.{ltb};
+ghost use lib.ListN.{length, getD, set};
+ghost use Rattle.laws.specs.Choice.{pick};
+ghost use Rattle.laws.specs.Puts.{putAt};
+ghost use Rattle.laws.specs.Tables.{without};
+ghost use Rattle.protocol.specs.Fields.{field2};
+ghost use Rattle.rules.specs.Requests as rules;
+ghost use Rattle.memory.specs.Layout.{memorySize, listPlace, requestPlace};
+ghost use Rattle.memory.specs.Memory.{requestIn, requestsIn, memoryOf, withRequests, requestsOf};
+ghost use Rattle.memory.specs.Lists as lists;
+ghost use Rattle.memory.specs.Search.{entry};
+ghost use Rattle.memory.specs.Lists.{requestOf, roomsIn, noRequest, Listed, placeOf, Joins};
+use crate::rows;
+use crate::sizes;
+use protocol::CsaNumber;
+
+// ---- where they stand
+fn list_place(k: usize) -> usize
+    requires { ⌜ k < 8 ⌝ }
+    ensures { λ r. ⌜ (r ≡ listPlace k) × (r + 1794 ≤ memorySize) ⌝ }
+{
+    4160 + k * 1794
+}
+
+fn room_place(k: usize, i: usize) -> usize
+    requires { ⌜ (k < 8) × (i < 64) ⌝ }
+    ensures { λ r. ⌜ (r ≡ requestPlace k i) × (r + 28 ≤ memorySize) ⌝ }
+{
+    4162 + k * 1794 + i * 28
+}
+
+// ---- reading
+// How many requests there are.
+pub fn count(memory: &[u8], k: usize) -> usize
+    requires { ⌜ (k < 8) × (length (now memory) ≡ memorySize) ⌝ }
+    ensures { λ r. ⌜ (r ≡ length (requestsIn (now (memory .entry)) k)) × (r ≤ 64) ⌝ }
+{
+    sizes::size_at(memory, list_place(k), 64)
+}
+
+// The number, the key and the originator of request i.
+pub fn number_at(memory: &[u8], k: usize, i: usize) -> CsaNumber
+    requires { ⌜ (k < 8) × ((i < 64) × (length (now memory) ≡ memorySize)) ⌝ }
+    ensures { λ r. ⌜ r ≡ requestIn (now (memory .entry)) k i .number ⌝ }
+{
+    numbers::csa_of(octets::field4(memory, room_place(k, i) + 4))
+}
+
+pub fn key_at(memory: &[u8], k: usize, i: usize) -> &[u8]
+    requires { ⌜ (k < 8) × ((i < 64) × (length (now memory) ≡ memorySize)) ⌝ }
+    ensures { λ r. ⌜ now r ≡ requestIn (now (memory .entry)) k i .entry .key ⌝ }
+{
+    let at = room_place(k, i);
+    let n = octets::octet(memory, at) as usize;
+    octets::first(octets::part_of(memory, at + 12, 16), n)
+}
+
+pub fn originator_at(memory: &[u8], k: usize, i: usize) -> &[u8]
+    requires { ⌜ (k < 8) × ((i < 64) × (length (now memory) ≡ memorySize)) ⌝ }
+    ensures { λ r. ⌜ now r ≡ requestIn (now (memory .entry)) k i .entry .originator ⌝ }
+{
+    octets::part_of(memory, room_place(k, i) + 8, 4)
+}
+
+// Whether request i is for the entry.
+fn asks(memory: &[u8], k: usize, i: usize, key: &[u8], originator: &[u8]) -> bool
+    requires { ⌜ (k < 8) × ((i < 64) × (length (now memory) ≡ memorySize)) ⌝ }
+    ensures { λ r. ⌜ r ≡ rules.asks (entry (now (key .entry)) (now (originator .entry))) (getD (roomsIn (now (memory .entry)) k) i noRequest) ⌝ }
+{
+    rows::entry_is(memory, room_place(k, i), key, originator)
+}
+
+// ---- one request as the octets of its room
+// The octets of a room, and octets into a room.
+fn lift(memory: &[u8], k: usize, i: usize) -> [u8; 28]
+    requires { ⌜ (k < 8) × ((i < 64) × (length (now memory) ≡ memorySize)) ⌝ }
+    ensures { λ r. ⌜ (length r ≡ 28) × (requestOf r ≡ getD (roomsIn (now (memory .entry)) k) i noRequest) ⌝ }
+{
+    let mut q = [0u8; 28];
+    bytes::copy(octets::part_of(memory, room_place(k, i), 28), &mut q);
+    q
+}
+
+fn lay(memory: &mut [u8], k: usize, i: usize, q: &[u8])
+    requires { ⌜ (k < 8) × ((i < 64) × ((length (now q) ≡ 28) × (length (now memory) ≡ memorySize))) ⌝ }
+    ensures { λ _. ⌜ Listed k (field2 (now (memory .entry)) (listPlace k)) (set (roomsIn (now (memory .entry)) k) i (requestOf (now (q .entry)))) (now (memory .entry)) (now (memory .exit)) ⌝ }
+{
+    octets::put(memory, room_place(k, i), q);
+}
+
+fn copy_request(memory: &mut [u8], k: usize, from: usize, to: usize)
+    requires { ⌜ (k < 8) × ((from < 64) × ((to < 64) × (length (now memory) ≡ memorySize))) ⌝ }
+    ensures { λ _. ⌜ Listed k (field2 (now (memory .entry)) (listPlace k)) (set (roomsIn (now (memory .entry)) k) to (getD (roomsIn (now (memory .entry)) k) from noRequest)) (now (memory .entry)) (now (memory .exit)) ⌝ }
+{
+    let q = lift(memory, k, from);
+    lay(memory, k, to, &q)
+}
+
+// b with src in its place from at on.
+fn put_in(b: [u8; 28], at: usize, src: &[u8]) -> [u8; 28]
+    requires { ⌜ at + length (now src) ≤ 28 ⌝ }
+    ensures { λ r. ⌜ (length r ≡ 28) × (r ≡ putAt b at (now (src .entry))) ⌝ }
+{
+    let mut q = b;
+    let to = at + src.len();
+    bytes::copy(src, &mut q[at..to]);
+    q
+}
+
+// A room's octets with key length and number; originator and key are zero.
+fn head(n: u8, bits: u32) -> [u8; 28]
+    ensures { λ r. ⌜ r ≡ lists.headOf n bits ⌝ }
+{
+    let mut q = [0u8; 28];
+    q[0] = n;
+    q[4] = (bits / 16777216) as u8;
+    q[5] = (bits / 65536 % 256) as u8;
+    q[6] = (bits / 256 % 256) as u8;
+    q[7] = (bits % 256) as u8;
+    q
+}
+
+fn pack(key: &[u8], originator: &[u8], number: CsaNumber) -> [u8; 28]
+    requires { ⌜ (length (now key) ≤ 16) × (length (now originator) ≡ 4) ⌝ }
+    ensures { λ r. ⌜ (length r ≡ 28) × (requestOf r ≡ record { entry = entry (now (key .entry)) (now (originator .entry)); number = number }) ⌝ }
+{
+    let b = head(key.len() as u8, numbers::bits_of(number));
+    put_in(put_in(b, 8, originator), 12, key)
+}
+
+fn put_request(
+    memory: &mut [u8],
+    k: usize,
+    i: usize,
+    key: &[u8],
+    originator: &[u8],
+    number: CsaNumber,
+)
+    requires { ⌜ ((k < 8) × (i < 64)) × (((length (now key) ≤ 16) × (length (now originator) ≡ 4)) × (length (now memory) ≡ memorySize)) ⌝ }
+    ensures { λ _. ⌜ Listed k (field2 (now (memory .entry)) (listPlace k)) (set (roomsIn (now (memory .entry)) k) i (record { entry = entry (now (key .entry)) (now (originator .entry)); number = number })) (now (memory .entry)) (now (memory .exit)) ⌝ }
+{
+    let q = pack(key, originator, number);
+    lay(memory, k, i, &q)
+}
+
+fn set_count(memory: &mut [u8], k: usize, n: usize)
+    requires { ⌜ (k < 8) × ((n ≤ 64) × (length (now memory) ≡ memorySize)) ⌝ }
+    ensures { λ _. ⌜ Listed k n (roomsIn (now (memory .entry)) k) (now (memory .entry)) (now (memory .exit)) ⌝ }
+{
+    sizes::put_size(memory, list_place(k), n)
+}
+
+// The list is emptied.
+pub fn empty(memory: &mut [u8], k: usize)
+    requires { ⌜ (k < 8) × (length (now memory) ≡ memorySize) ⌝ }
+    ensures { λ _. ⌜ memoryOf (now (memory .exit)) ≡ withRequests k [] (memoryOf (now (memory .entry))) ⌝ }
+{
+    set_count(memory, k, 0)
+}
+
+// ---- an entry joins
+// Where the entry's request stands; the list's length if there is none.
+fn find(memory: &[u8], k: usize, key: &[u8], originator: &[u8]) -> usize
+    requires { ⌜ (k < 8) × (length (now memory) ≡ memorySize) ⌝ }
+    ensures { λ r. ⌜ r ≡ placeOf (rules.asks (entry (now (key .entry)) (now (originator .entry)))) (requestsIn (now (memory .entry)) k) ⌝ }
+{
+    let n = count(memory, k);
+    let mut i: usize = 0;
+    while i < n {
+        if asks(memory, k, i, key, originator) {
+            return i;
+        }
+        i += 1;
+    }
+    n
+}
+
+// The entry's request, at i, gets the number if it is greater.
+fn raise(memory: &mut [u8], k: usize, i: usize, key: &[u8], originator: &[u8], number: CsaNumber)
+    requires { ⌜ ((k < 8) × (i < 64)) × (((length (now key) ≤ 16) × (length (now originator) ≡ 4)) × (length (now memory) ≡ memorySize)) ⌝ }
+    requires { ⌜ rules.asks (entry (now key) (now originator)) (getD (roomsIn (now memory) k) i noRequest) ≡ true ⌝ }
+    ensures { λ _. ⌜ Listed k (field2 (now (memory .entry)) (listPlace k)) (set (roomsIn (now (memory .entry)) k) i (rules.raised number (getD (roomsIn (now (memory .entry)) k) i noRequest))) (now (memory .entry)) (now (memory .exit)) ⌝ }
+{
+    if numbers::newer(number, number_at(memory, k, i)) {
+        put_request(memory, k, i, key, originator, number);
+    }
+}
+
+// A request behind the n that there are.
+fn append(memory: &mut [u8], k: usize, n: usize, key: &[u8], originator: &[u8], number: CsaNumber)
+    requires { ⌜ ((k < 8) × (n < 64)) × (((length (now key) ≤ 16) × (length (now originator) ≡ 4)) × (length (now memory) ≡ memorySize)) ⌝ }
+    ensures { λ _. ⌜ Listed k (n + 1) (set (roomsIn (now (memory .entry)) k) n (record { entry = entry (now (key .entry)) (now (originator .entry)); number = number })) (now (memory .entry)) (now (memory .exit)) ⌝ }
+{
+    put_request(memory, k, n, key, originator, number);
+    set_count(memory, k, n + 1)
+}
+
+fn one_more(missed: u16) -> u16
+    ensures { λ r. ⌜ r ≡ pick (ltb missed 65535) (suc missed) missed ⌝ }
+{
+    if missed < 65535 {
+        return missed + 1;
+    }
+    missed
+}
+
+// An entry wanted: one request an entry, in its first place, with the largest number. The number of those that found no room.
+pub fn join(
+    memory: &mut [u8],
+    k: usize,
+    key: &[u8],
+    originator: &[u8],
+    number: CsaNumber,
+    missed: u16,
+) -> u16
+    requires { ⌜ (k < 8) × (((length (now key) ≤ 16) × (length (now originator) ≡ 4)) × (length (now memory) ≡ memorySize)) ⌝ }
+    ensures { λ r. ⌜ Joins k (entry (now (key .entry)) (now (originator .entry))) number missed (now (memory .entry)) (now (memory .exit)) r ⌝ }
+{
+    let n = count(memory, k);
+    let i = find(memory, k, key, originator);
+    if i < n {
+        raise(memory, k, i, key, originator, number);
+        return missed;
+    }
+    if n < 64 {
+        append(memory, k, n, key, originator, number);
+        return missed;
+    }
+    one_more(missed)
+}
+
+// ---- requests go
+// Whether request i goes: it is for the entry, and all go or its number is no greater.
+fn goes(
+    memory: &[u8],
+    k: usize,
+    i: usize,
+    key: &[u8],
+    originator: &[u8],
+    all: bool,
+    number: CsaNumber,
+) -> bool
+    requires { ⌜ (k < 8) × ((i < 64) × (length (now memory) ≡ memorySize)) ⌝ }
+    ensures { λ r. ⌜ r ≡ lists.goes all (entry (now (key .entry)) (now (originator .entry))) number (getD (roomsIn (now (memory .entry)) k) i noRequest) ⌝ }
+{
+    if asks(memory, k, i, key, originator) {
+        if all {
+            return true;
+        }
+        return !numbers::newer(number_at(memory, k, i), number);
+    }
+    false
+}
+
+// Request i goes, or moves to w: the next place to move one to.
+fn sift_one(
+    memory: &mut [u8],
+    k: usize,
+    i: usize,
+    w: usize,
+    key: &[u8],
+    originator: &[u8],
+    all: bool,
+    number: CsaNumber,
+) -> usize
+    requires { ⌜ (k < 8) × (((i < 64) × (w ≤ i)) × (length (now memory) ≡ memorySize)) ⌝ }
+    ensures { λ r. ⌜ lists.Sifts k (lists.goes all (entry (now (key .entry)) (now (originator .entry))) number) i w (now (memory .entry)) (now (memory .exit)) r ⌝ }
+{
+    if goes(memory, k, i, key, originator, all, number) {
+        return w;
+    }
+    copy_request(memory, k, i, w);
+    w + 1
+}
+
+// The requests that stay move up, in order.
+fn sift(memory: &mut [u8], k: usize, key: &[u8], originator: &[u8], all: bool, number: CsaNumber)
+    requires { ⌜ (k < 8) × (length (now memory) ≡ memorySize) ⌝ }
+    ensures { λ _. ⌜ memoryOf (now (memory .exit)) ≡ withRequests k (without (lists.goes all (entry (now (key .entry)) (now (originator .entry))) number) (requestsOf (memoryOf (now (memory .entry))) k)) (memoryOf (now (memory .entry))) ⌝ }
+{
+    let n = count(memory, k);
+    let mut w: usize = 0;
+    let mut i: usize = 0;
+    while i < n {
+        w = sift_one(memory, k, i, w, key, originator, all, number);
+        i += 1;
+    }
+    set_count(memory, k, w)
+}
+
+// The entry's request goes if its number is no greater.
+pub fn acknowledge(memory: &mut [u8], k: usize, key: &[u8], originator: &[u8], number: CsaNumber)
+    requires { ⌜ (k < 8) × (length (now memory) ≡ memorySize) ⌝ }
+    ensures { λ _. ⌜ memoryOf (now (memory .exit)) ≡ withRequests k (rules.acknowledged (entry (now (key .entry)) (now (originator .entry))) number (requestsOf (memoryOf (now (memory .entry))) k)) (memoryOf (now (memory .entry))) ⌝ }
+{
+    sift(memory, k, key, originator, false, number)
+}
+
+// The entry's request goes.
+pub fn drop_entry(memory: &mut [u8], k: usize, key: &[u8], originator: &[u8])
+    requires { ⌜ (k < 8) × (length (now memory) ≡ memorySize) ⌝ }
+    ensures { λ _. ⌜ memoryOf (now (memory .exit)) ≡ withRequests k (rules.dropped (entry (now (key .entry)) (now (originator .entry))) (requestsOf (memoryOf (now (memory .entry))) k)) (memoryOf (now (memory .entry))) ⌝ }
+{
+    sift(memory, k, key, originator, true, CsaNumber(0))
+}
+
+// ---- the first go to the end
+// Each request up to `last` but the first moves one room up.
+fn move_up(memory: &mut [u8], k: usize, last: usize)
+    requires { ⌜ (k < 8) × ((last < 64) × (length (now memory) ≡ memorySize)) ⌝ }
+    ensures { λ _. ⌜ Listed k (field2 (now (memory .entry)) (listPlace k)) (lists.movedUp last (roomsIn (now (memory .entry)) k)) (now (memory .entry)) (now (memory .exit)) ⌝ }
+{
+    let mut i: usize = 0;
+    while i < last {
+        copy_request(memory, k, i + 1, i);
+        i += 1;
+    }
+}
+
+// The first request moves to the room `last`.
+fn turn(memory: &mut [u8], k: usize, last: usize)
+    requires { ⌜ (k < 8) × ((last < 64) × (length (now memory) ≡ memorySize)) ⌝ }
+    ensures { λ _. ⌜ Listed k (field2 (now (memory .entry)) (listPlace k)) (lists.turned last (roomsIn (now (memory .entry)) k)) (now (memory .entry)) (now (memory .exit)) ⌝ }
+{
+    let q = lift(memory, k, 0);
+    move_up(memory, k, last);
+    lay(memory, k, last, &q)
+}
+
+fn at_most_four(n: usize) -> usize
+    ensures { λ r. ⌜ r ≡ min 4 n ⌝ }
+{
+    if n < 4 {
+        return n;
+    }
+    4
+}
+
+// The first four requests, or all, move to the end.
+pub fn rotate(memory: &mut [u8], k: usize)
+    requires { ⌜ (k < 8) × (length (now memory) ≡ memorySize) ⌝ }
+    ensures { λ _. ⌜ memoryOf (now (memory .exit)) ≡ withRequests k (rules.rotated (requestsOf (memoryOf (now (memory .entry))) k)) (memoryOf (now (memory .entry))) ⌝ }
+{
+    let n = count(memory, k);
+    let turns = at_most_four(n);
+    let mut i: usize = 0;
+    while i < turns {
+        turn(memory, k, n - 1);
+        i += 1;
+    }
+}

@@ -1,0 +1,28 @@
+// A summary taken in: a request for what the rows do not have.
+ghost use mathlib.Core.Path.{_≡_};
+ghost use Prim.Native.Nat.{_≤_, _<_};
+ghost use lib.ListN.{length};
+ghost use Rattle.memory.specs.Layout.{memorySize};
+ghost use Rattle.memory.specs.Search.{entry};
+ghost use Rattle.memory.specs.Lists.{TakesIn};
+use crate::entries;
+use crate::requests;
+use protocol::CsaNumber;
+
+// A summary of an absent or newer entry joins slot k's request list: how many found no room.
+pub fn take_in(
+    memory: &mut [u8],
+    k: usize,
+    key: &[u8],
+    originator: &[u8],
+    number: CsaNumber,
+    missed: u16,
+) -> u16
+    requires { ⌜ (k < 8) × (((length (now key) ≤ 16) × (length (now originator) ≡ 4)) × (length (now memory) ≡ memorySize)) ⌝ }
+    ensures { λ r. ⌜ TakesIn k (entry (now (key .entry)) (now (originator .entry))) number missed (now (memory .entry)) (now (memory .exit)) r ⌝ }
+{
+    if entries::is_up_to_date(memory, key, originator, number) {
+        return missed;
+    }
+    requests::join(memory, k, key, originator, number, missed)
+}
