@@ -45,6 +45,10 @@ module _ (e : Entry) (s : List ℕ) where
         entry-changed p
         ∙ ap (λ (b : Bool). withRows (pick b (change (holds e) f (rowsIn s)) (filled r (rowsIn s))) (memoryOf s)) (sym (has-found (holds e) (rowsIn s) i at))
 
+  -- it is not absent: where it is, every octet stays
+  pub found-kept : (i : ℕ) → firstFrom (holds e) 0 (rowsIn s) ≡ At i → (t : List ℕ) → has (holds e) (rowsIn s) ≡ false → t ≡ s
+  found-kept i at t h = absurd (false≢true (sym h ∙ has-found (holds e) (rowsIn s) i at))
+
   module _ (none : firstFrom (holds e) 0 (rowsIn s) ≡ Nothing) (f : Row → Row) where
     pub entry-absent : memoryOf s ≡ rowsAs (change (holds e) f) s
     entry-absent = all-rows s ∙ ap (λ (rows : List Row). withRows rows (memoryOf s)) (sym (change-none (holds e) (rowsIn s) none f))

@@ -2,7 +2,7 @@
 -- Assumes nothing.
 use Prim.Native.Nat.{ℕ, suc, _+_, _-_, _≤_, _<_, min}
 use mathlib.Core.Path.{_≡_, refl, sym, ap, _∙_, subst, fun-ext}
-use mathlib.Core.Bool.{Bool, true, false, not, _&&_}
+use mathlib.Core.Bool.{Bool, true, false, not, _&&_, false≢true}
 use mathlib.Core.List.{List, [], _∷_, _++_, append-nil}
 use native.Mathlib.Numerals.{add-one}
 use native.Mathlib.Omega.{arith}
@@ -139,13 +139,15 @@ module _ (s : List ℕ) (k : ℕ) (slot : k < 8) (e : Entry) (n : CsaNumber) (mi
 
   -- what it comes to, of the list that the rules speak of
   joined : (t : List ℕ) (l : List Request) (r : ℕ) → requestsIn t k ≡ l → memoryOf t ≡ withRequests k (requestsIn t k) (memoryOf s)
-      → join e n (record { requests = requestsIn s k; missed = missed }) ≡ record { requests = l; missed = r } → Joins k e n missed s t r
-  joined t l r a b c =
+      → join e n (record { requests = requestsIn s k; missed = missed }) ≡ record { requests = l; missed = r }
+      → (has (asks e) (requestsIn s k) ≡ false → ltb (length (requestsIn s k)) 64 ≡ false → t ≡ s) → Joins k e n missed s t r
+  joined t l r a b c d =
       let f : join e n (record { requests = requestsOf (memoryOf s) k; missed = missed }) ≡ record { requests = l; missed = r } =
       ap (λ (z : List Request). join e n (record { requests = z; missed = missed })) (requests-of s k slot) ∙ c in
       record {
         list = b ∙ ap (λ (z : List Request). withRequests k z (memoryOf s)) (a ∙ sym (ap (λ (w : Wanted). w .requests) f));
         count = sym (ap (λ (w : Wanted). w .missed) f);
+        kept = λ none most. d (ap (has (asks e)) (sym (requests-of s k slot)) ∙ none) (ap (λ (z : List Request). ltb (length z) 64) (sym (requests-of s k slot)) ∙ most);
       }
 
   pub join-found : (t : List ℕ) → i < m
@@ -157,7 +159,7 @@ module _ (s : List ℕ) (k : ℕ) (slot : k < 8) (e : Entry) (n : CsaNumber) (mi
       listed-requests p ∙ list-set s k i (raised n (getD (roomsIn s k) i noRequest)) (omega arith)
       ∙ ap (λ (q : Request). set l i (raised n q)) (sym (list-get s k i (omega arith)))
       ∙ ap (λ (z : ℕ). set l z (raised n (getD l z noRequest))) found ∙ sym (P .changes (raised n)) in
-      joined t (change (asks e) (raised n) l) missed f (p .others) (join-has e n l missed (P .there))
+      joined t (change (asks e) (raised n) l) missed f (p .others) (join-has e n l missed (P .there)) (λ none most. absurd (false≢true (sym none ∙ P .there)))
 
   pub join-new : (t : List ℕ) → m ≤ i → m < 64 → Listed k (m + 1) (set (roomsIn s k) m (record { entry = e; number = n })) s t → Joins k e n missed s t missed
   join-new t h g p =
@@ -168,13 +170,14 @@ module _ (s : List ℕ) (k : ℕ) (slot : k < 8) (e : Entry) (n : CsaNumber) (mi
       listed-requests p ∙ ap (λ (z : ℕ). take z (set (roomsIn s k) m x)) (add-one m) ∙ take-suc-set (roomsIn s k) m x room
       ∙ ap (λ (z : List Request). z ++ (x ∷ [])) (list-take s k m long) in
       joined t (l ++ (x ∷ [])) missed f (p .others) (join-adds e n l missed (nowhere (asks e) noRequest l (omega arith)) (omega arith))
+      (λ none most. absurd (false≢true (sym most ∙ lt-ltb (length l) 64 (omega arith))))
 
   pub join-full : (r : ℕ) → m ≤ i → 64 ≤ m → r ≡ pick (ltb missed 65535) (suc missed) missed → Joins k e n missed s s r
   join-full r h g c =
       let l : List Request = requestsIn s k in
       subst (Joins k e n missed s s) (sym c)
       (joined s l (pick (ltb missed 65535) (suc missed) missed) refl (listed-none s k slot .others)
-      (join-misses e n l missed (nowhere (asks e) noRequest l (omega arith)) (omega arith)))
+      (join-misses e n l missed (nowhere (asks e) noRequest l (omega arith)) (omega arith)) (λ none most. refl))
 
 -- ---- those that go
 module _ (s t : List ℕ) (k : ℕ) (p : Request → Bool) (i w : ℕ) (r : Bool) (is : r ≡ p (getD (roomsIn s k) i noRequest)) where

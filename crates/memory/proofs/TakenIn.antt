@@ -1,8 +1,8 @@
 -- A summary taken in: nothing changes where the rows have the entry, else it joins.
 -- Assumes nothing.
 use Prim.Native.Nat.{ℕ}
-use mathlib.Core.Path.{_≡_, sym, ap, _∙_}
-use mathlib.Core.Bool.{Bool, true, false}
+use mathlib.Core.Path.{_≡_, refl, sym, ap, _∙_}
+use mathlib.Core.Bool.{Bool, true, false, false≢true}
 use mathlib.Core.List.{List, []}
 use lib.Seq.{set-getD}
 use Rattle.laws.specs.Tables.{has}
@@ -18,7 +18,7 @@ same-list m k = ap (λ (l : List (List Request)). record { rows = m .rows; reque
 
 module _ (s : List ℕ) (k : ℕ) (e : Entry) (n : CsaNumber) (missed : ℕ) where
   pub taken-none : has (upToDate e n) (rowsIn s) ≡ true → TakesIn k e n missed s s missed
-  taken-none h = record { list = rw h (sym (same-list (memoryOf s) k)); count = rw h }
+  taken-none h = record { list = rw h (sym (same-list (memoryOf s) k)); count = rw h; kept = λ g. refl; full = λ f g. refl }
 
   pub taken-joins : (t : List ℕ) (r : ℕ) → has (upToDate e n) (rowsIn s) ≡ false → Joins k e n missed s t r → TakesIn k e n missed s t r
-  taken-joins t r h j = record { list = rw h (j .list); count = rw h (j .count) }
+  taken-joins t r h j = record { list = rw h (j .list); count = rw h (j .count); kept = λ g. absurd (false≢true (sym h ∙ g)); full = j .kept }

@@ -2,9 +2,10 @@
 -- Assumes nothing.
 use Prim.Native.Nat.{ℕ, suc}
 use mathlib.Core.Path.{_≡_}
-use mathlib.Core.Bool.{Bool, not, _&&_, _||_}
+use mathlib.Core.Bool.{Bool, true, false, not, _&&_, _||_}
 use mathlib.Core.List.{List, [], _∷_, _++_}
-use lib.ListN.{take, drop, getD, set, replicate}
+use lib.Dec.{ltb}
+use lib.ListN.{length, take, drop, getD, set, replicate}
 use Rattle.laws.specs.Choice.{pick}
 use Rattle.laws.specs.Lists.{table}
 use Rattle.laws.specs.Tables.{has}
@@ -52,6 +53,7 @@ goes all e n q = asks e q && (all || not (newer (q .number) n))
 pub record Joins (k : ℕ) (e : Entry) (n : CsaNumber) (missed : ℕ) (before after : List ℕ) (r : ℕ) : Type 0 where
   pub list : memoryOf after ≡ withRequests k (join e n (record { requests = requestsOf (memoryOf before) k; missed = missed }) .requests) (memoryOf before)
   pub count : r ≡ join e n (record { requests = requestsOf (memoryOf before) k; missed = missed }) .missed
+  pub kept : has (asks e) (requestsOf (memoryOf before) k) ≡ false → ltb (length (requestsOf (memoryOf before) k)) requestsMost ≡ false → after ≡ before
 
 -- the list and the missed count after a summary of the entry: as `takenIn` of the rules, for a record of this key, originator and number
 abbrev pub wantedNow : ℕ → ℕ → List ℕ → Wanted
@@ -63,6 +65,8 @@ wantedAfter k e n missed s = pick (has (upToDate e n) (rowsIn s)) (wantedNow k m
 pub record TakesIn (k : ℕ) (e : Entry) (n : CsaNumber) (missed : ℕ) (before after : List ℕ) (r : ℕ) : Type 0 where
   pub list : memoryOf after ≡ withRequests k (wantedAfter k e n missed before .requests) (memoryOf before)
   pub count : r ≡ wantedAfter k e n missed before .missed
+  pub kept : has (upToDate e n) (rowsIn before) ≡ true → after ≡ before
+  pub full : has (asks e) (requestsOf (memoryOf before) k) ≡ false → ltb (length (requestsOf (memoryOf before) k)) requestsMost ≡ false → after ≡ before
 
 -- what a function ensures that goes past request i, one of those that go or one to move to w
 pub record Sifts (k : ℕ) (p : Request → Bool) (i w : ℕ) (before after : List ℕ) (r : ℕ) : Type 0 where

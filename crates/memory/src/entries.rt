@@ -1,5 +1,6 @@
 // Entries, as the rules speak of them: records stored or answered, changes of ours, and what is held.
 ghost use mathlib.Core.Path.{_≡_};
+ghost use mathlib.Core.Bool.{false};
 ghost use Prim.Native.Nat.{_-_, _≤_, _<_};
 ghost use lib.ListN.{length};
 ghost use Rattle.laws.specs.Tables as tables;
@@ -79,6 +80,7 @@ pub fn store_record(
 pub fn equal_record(memory: &mut [u8], k: usize, key: &[u8], originator: &[u8])
     requires { ⌜ (length (now memory) ≡ memorySize) × (k < slotsMost) ⌝ }
     ensures { λ _. ⌜ memoryOf (now (memory .exit)) ≡ rowsAs (tables.change (holds (entry (now (key .entry)) (now (originator .entry)))) (unmarked k)) (now (memory .entry)) ⌝ }
+    ensures kept { λ _. ⌜ (tables.has (holds (entry (now (key .entry)) (now (originator .entry)))) (rowsIn (now (memory .entry))) ≡ false → now (memory .exit) ≡ now (memory .entry)) ⌝ }
 {
     match rows::find(memory, key, originator) {
         Found::At(i) => marks::clear_mark(memory, i, k),
@@ -90,6 +92,7 @@ pub fn equal_record(memory: &mut [u8], k: usize, key: &[u8], originator: &[u8])
 pub fn older_record(memory: &mut [u8], k: usize, key: &[u8], originator: &[u8])
     requires { ⌜ (length (now memory) ≡ memorySize) × (k < slotsMost) ⌝ }
     ensures { λ _. ⌜ memoryOf (now (memory .exit)) ≡ rowsAs (tables.change (holds (entry (now (key .entry)) (now (originator .entry)))) (owed k)) (now (memory .entry)) ⌝ }
+    ensures kept { λ _. ⌜ (tables.has (holds (entry (now (key .entry)) (now (originator .entry)))) (rowsIn (now (memory .entry))) ≡ false → now (memory .exit) ≡ now (memory .entry)) ⌝ }
 {
     match rows::find(memory, key, originator) {
         Found::At(i) => marks::owe(memory, i, k),
@@ -101,6 +104,7 @@ pub fn older_record(memory: &mut [u8], k: usize, key: &[u8], originator: &[u8])
 pub fn reply_record(memory: &mut [u8], k: usize, key: &[u8], originator: &[u8], number: CsaNumber)
     requires { ⌜ (length (now memory) ≡ memorySize) × (k < slotsMost) ⌝ }
     ensures { λ _. ⌜ memoryOf (now (memory .exit)) ≡ rowsAs (tables.change (holds (entry (now (key .entry)) (now (originator .entry)))) (replied k number)) (now (memory .entry)) ⌝ }
+    ensures kept { λ _. ⌜ (tables.has (holds (entry (now (key .entry)) (now (originator .entry)))) (rowsIn (now (memory .entry))) ≡ false → now (memory .exit) ≡ now (memory .entry)) ⌝ }
 {
     match rows::find(memory, key, originator) {
         Found::At(i) => marks::settle(memory, i, k, number),
@@ -160,6 +164,7 @@ pub fn set_entry(memory: &mut [u8], live: u8, key: &[u8], originator: &[u8], pay
 pub fn withdraw_entry(memory: &mut [u8], live: u8, key: &[u8], originator: &[u8])
     requires { ⌜ length (now memory) ≡ memorySize ⌝ }
     ensures { λ _. ⌜ memoryOf (now (memory .exit)) ≡ rowsAs (withdrawRows (isMarked live) (entry (now (key .entry)) (now (originator .entry)))) (now (memory .entry)) ⌝ }
+    ensures kept { λ _. ⌜ (tables.has (holds (entry (now (key .entry)) (now (originator .entry)))) (rowsIn (now (memory .entry))) ≡ false → now (memory .exit) ≡ now (memory .entry)) ⌝ }
 {
     let none = [0u8; 0];
     match rows::find(memory, key, originator) {
@@ -172,6 +177,7 @@ pub fn withdraw_entry(memory: &mut [u8], live: u8, key: &[u8], originator: &[u8]
 pub fn purge_entry(memory: &mut [u8], live: u8, key: &[u8], originator: &[u8])
     requires { ⌜ length (now memory) ≡ memorySize ⌝ }
     ensures { λ _. ⌜ memoryOf (now (memory .exit)) ≡ rowsAs (purgeRows (isMarked live) (entry (now (key .entry)) (now (originator .entry)))) (now (memory .entry)) ⌝ }
+    ensures kept { λ _. ⌜ (tables.has (holds (entry (now (key .entry)) (now (originator .entry)))) (rowsIn (now (memory .entry))) ≡ false → now (memory .exit) ≡ now (memory .entry)) ⌝ }
 {
     match rows::find(memory, key, originator) {
         Found::At(i) => purge_row(memory, live, i),
