@@ -15,6 +15,7 @@ ghost use Rattle.memory.specs.Layout.{memorySize};
 ghost use Rattle.memory.specs.Memory.{isMarked, rowIn, rowsIn, memoryOf};
 ghost use Rattle.memory.specs.Search.{entry, withRow, FitsRow};
 ghost use Rattle.memory.specs.Entries.{received, rowsAs, putRows, heldNumber};
+use crate::layout::ROWS;
 use crate::marks;
 use crate::rows;
 use crate::rows::Found;
@@ -213,7 +214,7 @@ pub fn is_up_to_date(memory: &[u8], key: &[u8], originator: &[u8], number: CsaNu
     ensures { λ r. ⌜ r ≡ tables.has (upToDate (entry (now (key .entry)) (now (originator .entry))) number) (rowsIn (now (memory .entry))) ⌝ }
 {
     let mut i: usize = 0;
-    while i < 64 {
+    while i < ROWS {
         if row_up_to_date(memory, i, key, originator, number) {
             return true;
         }

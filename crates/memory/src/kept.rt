@@ -6,13 +6,16 @@ ghost use lib.ListN.{length};
 ghost use Rattle.laws.specs.Puts.{written};
 ghost use Rattle.memory.specs.Layout.{memorySize, keptPlace};
 ghost use Rattle.memory.specs.Memory.{keptIn, memoryOf, withKept};
+use crate::layout::KEPT_AT;
+use crate::layout::KEPT_SIZE;
+use crate::layout::PACKET;
 use crate::sizes;
 
 fn place(k: usize) -> usize
     requires { ⌜ k < 8 ⌝ }
     ensures { λ r. ⌜ (r ≡ keptPlace k) × (r + 286 ≤ memorySize) ⌝ }
 {
-    18512 + k * 286
+    KEPT_AT + k * KEPT_SIZE
 }
 
 // A CA is kept.
@@ -38,7 +41,7 @@ pub fn kept_len(memory: &[u8], k: usize) -> usize
     requires { ⌜ (k < 8) × (length (now memory) ≡ memorySize) ⌝ }
     ensures { λ r. ⌜ (r ≡ length (keptIn (now (memory .entry)) k)) × (r ≤ 284) ⌝ }
 {
-    sizes::size_at(memory, place(k), 284)
+    sizes::size_at(memory, place(k), PACKET)
 }
 
 // The kept CA, where it lies.
@@ -48,7 +51,7 @@ pub fn kept_of(memory: &[u8], k: usize) -> &[u8]
 {
     let at = place(k);
     let n = octets::field2(memory, at) as usize;
-    octets::first(octets::part_of(memory, at + 2, 284), n)
+    octets::first(octets::part_of(memory, at + 2, PACKET), n)
 }
 
 // The kept CA is written out: its length.

@@ -2,6 +2,7 @@
 // Every function is below the events: it asks that the memory has its size, and nothing of what it holds.
 pub mod entries;
 pub mod kept;
+mod layout;
 pub mod marks;
 pub mod next;
 pub mod requests;

@@ -12,6 +12,9 @@ ghost use Rattle.rules.specs.Updates.{owed, replied};
 ghost use Rattle.memory.specs.Layout.{memorySize, markPlace};
 ghost use Rattle.memory.specs.Memory.{isMarked, rowsIn, memoryOf, withRows};
 ghost use Rattle.memory.specs.Marks.{marked, changedAt, PutMarks};
+use crate::layout::MARKS_AT;
+use crate::layout::ROW_SIZE;
+use crate::layout::ROWS;
 use crate::rows;
 use protocol::CsaNumber;
 
@@ -76,7 +79,7 @@ pub fn marks_of(memory: &[u8], i: usize) -> u8
     requires { ⌜ (length (now memory) ≡ memorySize) × (i < rowsMost) ⌝ }
     ensures { λ r. ⌜ r ≡ octet (now (memory .entry)) (markPlace i) ⌝ }
 {
-    memory[4096 + i]
+    memory[MARKS_AT + i]
 }
 
 // Whether row i waits for slot k.
@@ -84,10 +87,10 @@ pub fn waits(memory: &[u8], i: usize, k: usize) -> bool
     requires { ⌜ (length (now memory) ≡ memorySize) × ((i < rowsMost) × (k < slotsMost)) ⌝ }
     ensures { λ r. ⌜ r ≡ waitsFor k (rowAt (rowsIn (now (memory .entry))) i) ⌝ }
 {
-    if memory[i * 64] == 0 {
+    if memory[i * ROW_SIZE] == 0 {
         return false;
     }
-    is_marked(memory[4096 + i], k)
+    is_marked(memory[MARKS_AT + i], k)
 }
 
 // Row i has these marks.
@@ -95,7 +98,7 @@ pub fn put_marks(memory: &mut [u8], i: usize, marks: u8)
     requires { ⌜ (length (now memory) ≡ memorySize) × (i < rowsMost) ⌝ }
     ensures { λ _. ⌜ PutMarks i marks (now (memory .entry)) (now (memory .exit)) ⌝ }
 {
-    memory[4096 + i] = marks;
+    memory[MARKS_AT + i] = marks;
 }
 
 // Row i waits for slot k.
@@ -121,7 +124,7 @@ pub fn owe(memory: &mut [u8], i: usize, k: usize)
     requires { ⌜ (length (now memory) ≡ memorySize) × ((i < rowsMost) × (k < slotsMost)) ⌝ }
     ensures { λ _. ⌜ memoryOf (now (memory .exit)) ≡ changedAt (owed k) i (now (memory .entry)) ⌝ }
 {
-    if octets::field2(memory, i * 64 + 2) == 0 {
+    if octets::field2(memory, i * ROW_SIZE + 2) == 0 {
         return;
     }
     set_mark(memory, i, k);
@@ -148,7 +151,7 @@ pub fn clear_slot(memory: &mut [u8], k: usize)
     ensures { λ _. ⌜ memoryOf (now (memory .exit)) ≡ withRows (map (rules.unmarked k) (rowsIn (now (memory .entry)))) (memoryOf (now (memory .entry))) ⌝ }
 {
     let mut i: usize = 0;
-    while i < 64 {
+    while i < ROWS {
         clear_mark(memory, i, k);
         i += 1;
     }

@@ -7,6 +7,7 @@ ghost use Rattle.rules.specs.Rows.{nextUsed, usedFrom, nextWaiting};
 ghost use Rattle.memory.specs.Layout.{memorySize};
 ghost use Rattle.memory.specs.Memory.{rowsIn};
 ghost use Rattle.memory.specs.Marks.{Picked};
+use crate::layout::ROWS;
 use crate::marks;
 use crate::rows;
 
@@ -26,7 +27,7 @@ pub fn next_used(memory: &[u8], from: usize) -> Picks
     let mut count: usize = 0;
     let mut at = from;
     let mut next = from;
-    while at < 64 {
+    while at < ROWS {
         if count == 4 {
             return Picks { count, rows, next };
         }
@@ -46,7 +47,7 @@ pub fn used_from(memory: &[u8], from: usize) -> bool
     ensures { λ r. ⌜ r ≡ usedFrom (rowsIn (now (memory .entry))) from ⌝ }
 {
     let mut at = from;
-    while at < 64 {
+    while at < ROWS {
         if rows::is_used(memory, at) {
             return true;
         }
@@ -65,12 +66,12 @@ pub fn next_waiting(memory: &[u8], k: usize, from: usize) -> Picks
     let mut count: usize = 0;
     let mut place = from;
     let mut next = from;
-    let mut left: usize = 64;
+    let mut left: usize = ROWS;
     while left > 0 {
         if count == 4 {
             return Picks { count, rows, next };
         }
-        if marks::waits(memory, place % 64, k) {
+        if marks::waits(memory, place % ROWS, k) {
             rows[count] = place;
             count += 1;
             next = place + 1;

@@ -15,6 +15,16 @@ ghost use Rattle.memory.specs.Memory.{requestIn, requestsIn, memoryOf, w
 ghost use Rattle.memory.specs.Lists as lists;
 ghost use Rattle.memory.specs.Search.{entry};
 ghost use Rattle.memory.specs.Lists.{requestOf, roomsIn, noRequest, Listed, placeOf, Joins};
+use crate::layout::ID;
+use crate::layout::KEY;
+use crate::layout::KEY_PLACE;
+use crate::layout::LIST_SIZE;
+use crate::layout::NUMBER_PLACE;
+use crate::layout::ORIGINATOR_PLACE;
+use crate::layout::REQUEST_SIZE;
+use crate::layout::REQUESTS;
+use crate::layout::REQUESTS_AT;
+use crate::layout::ROOMS_AT;
 use crate::rows;
 use crate::sizes;
 use protocol::CsaNumber;
@@ -24,14 +34,14 @@ fn list_place(k: usize) -> usize
     requires { ⌜ k < 8 ⌝ }
     ensures { λ r. ⌜ (r ≡ listPlace k) × (r + 1794 ≤ memorySize) ⌝ }
 {
-    4160 + k * 1794
+    REQUESTS_AT + k * LIST_SIZE
 }
 
 fn room_place(k: usize, i: usize) -> usize
     requires { ⌜ (k < 8) × (i < 64) ⌝ }
     ensures { λ r. ⌜ (r ≡ requestPlace k i) × (r + 28 ≤ memorySize) ⌝ }
 {
-    4162 + k * 1794 + i * 28
+    ROOMS_AT + k * LIST_SIZE + i * REQUEST_SIZE
 }
 
 // ---- reading
@@ -40,7 +50,7 @@ pub fn count(memory: &[u8], k: usize) -> usize
     requires { ⌜ (k < 8) × (length (now memory) ≡ memorySize) ⌝ }
     ensures { λ r. ⌜ (r ≡ length (requestsIn (now (memory .entry)) k)) × (r ≤ 64) ⌝ }
 {
-    sizes::size_at(memory, list_place(k), 64)
+    sizes::size_at(memory, list_place(k), REQUESTS)
 }
 
 // The number, the key and the originator of request i.
@@ -48,7 +58,7 @@ pub fn number_at(memory: &[u8], k: usize, i: usize) -> CsaNumber
     requires { ⌜ (k < 8) × ((i < 64) × (length (now memory) ≡ memorySize)) ⌝ }
     ensures { λ r. ⌜ r ≡ requestIn (now (memory .entry)) k i .number ⌝ }
 {
-    numbers::csa_of(octets::field4(memory, room_place(k, i) + 4))
+    numbers::csa_of(octets::field4(memory, room_place(k, i) + NUMBER_PLACE))
 }
 
 pub fn key_at(memory: &[u8], k: usize, i: usize) -> &[u8]
@@ -57,14 +67,14 @@ pub fn key_at(memory: &[u8], k: usize, i: usize) -> &[u8]
 {
     let at = room_place(k, i);
     let n = octets::octet(memory, at) as usize;
-    octets::first(octets::part_of(memory, at + 12, 16), n)
+    octets::first(octets::part_of(memory, at + KEY_PLACE, KEY), n)
 }
 
 pub fn originator_at(memory: &[u8], k: usize, i: usize) -> &[u8]
     requires { ⌜ (k < 8) × ((i < 64) × (length (now memory) ≡ memorySize)) ⌝ }
     ensures { λ r. ⌜ now r ≡ requestIn (now (memory .entry)) k i .entry .originator ⌝ }
 {
-    octets::part_of(memory, room_place(k, i) + 8, 4)
+    octets::part_of(memory, room_place(k, i) + ORIGINATOR_PLACE, ID)
 }
 
 // Whether request i is for the entry.
@@ -82,7 +92,10 @@ fn lift(memory: &[u8], k: usize, i: usize) -> [u8; 28]
     ensures { λ r. ⌜ (length r ≡ 28) × (requestOf r ≡ getD (roomsIn (now (memory .entry)) k) i noRequest) ⌝ }
 {
     let mut q = [0u8; 28];
-    bytes::copy(octets::part_of(memory, room_place(k, i), 28), &mut q);
+    bytes::copy(
+        octets::part_of(memory, room_place(k, i), REQUEST_SIZE),
+        &mut q,
+    );
     q
 }
 
@@ -130,7 +143,7 @@ fn pack(key: &[u8], originator: &[u8], number: CsaNumber) -> [u8; 28]
     ensures { λ r. ⌜ (length r ≡ 28) × (requestOf r ≡ record { entry = entry (now (key .entry)) (now (originator .entry)); number = number }) ⌝ }
 {
     let b = head(key.len() as u8, numbers::bits_of(number));
-    put_in(put_in(b, 8, originator), 12, key)
+    put_in(put_in(b, ORIGINATOR_PLACE, originator), KEY_PLACE, key)
 }
 
 fn put_request(
@@ -227,7 +240,7 @@ pub fn join(
         raise(memory, k, i, key, originator, number);
         return missed;
     }
-    if n < 64 {
+    if n < REQUESTS {
         append(memory, k, n, key, originator, number);
         return missed;
     }

@@ -11,6 +11,11 @@ ghost use Rattle.rules.specs.Updates.{value};
 ghost use Rattle.memory.specs.Layout.{rowSize, memorySize, rowPlace};
 ghost use Rattle.memory.specs.Memory.{isMarked, rowIn, rowsIn, memoryOf, withRows, freshMemory};
 ghost use Rattle.memory.specs.Search.{entry, withRow, revalued, padded, valueHead, rowHead, rowOctets, FitsRow, PutRow, Inserts, goes};
+use crate::layout::MARKS_AT;
+use crate::layout::PAYLOAD_PLACE;
+use crate::layout::ROW_SIZE;
+use crate::layout::ROW_TAIL;
+use crate::layout::ROWS;
 use crate::marks;
 use crate::rows;
 use crate::rows::Found;
@@ -95,7 +100,7 @@ fn put_row_octets(
 {
     let a = put_row_head(out, at, key, originator, number, payload, remaining);
     let b = put_padded(out, a, key, 16);
-    put_padded(out, b, payload, 36)
+    put_padded(out, b, payload, ROW_TAIL)
 }
 
 // ---- rows put
@@ -112,7 +117,15 @@ pub fn put_row(
     requires { ⌜ (length (now memory) ≡ memorySize) × ((i < rowsMost) × FitsRow (now key) (now originator) (now payload)) ⌝ }
     ensures { λ _. ⌜ PutRow i (entry (now (key .entry)) (now (originator .entry))) (value number (now (payload .entry)) remaining) (isMarked marks) (now (memory .entry)) (now (memory .exit)) ⌝ }
 {
-    put_row_octets(memory, i * 64, key, originator, number, payload, remaining);
+    put_row_octets(
+        memory,
+        i * ROW_SIZE,
+        key,
+        originator,
+        number,
+        payload,
+        remaining,
+    );
     marks::put_marks(memory, i, marks);
 }
 
@@ -121,7 +134,7 @@ fn put_value_octets(memory: &mut [u8], at: usize, number: CsaNumber, payload: &[
     ensures { λ _. ⌜ now (memory .exit) ≡ putAt (putAt (now (memory .entry)) (at + 1) (valueHead (value number (now (payload .entry)) remaining))) (at + 28) (padded 36 (now (payload .entry))) ⌝ }
 {
     put_value_head(memory, at + 1, number, payload, remaining);
-    put_padded(memory, at + 28, payload, 36);
+    put_padded(memory, at + PAYLOAD_PLACE, payload, ROW_TAIL);
 }
 
 // Another value and other marks for the entry of a row; a free row stays free.
@@ -136,7 +149,7 @@ pub fn put_value(
     requires { ⌜ (length (now memory) ≡ memorySize) × ((i < rowsMost) × (length (now payload) ≤ payloadMost)) ⌝ }
     ensures { λ _. ⌜ memoryOf (now (memory .exit)) ≡ withRow (now (memory .entry)) i (revalued (value number (now (payload .entry)) remaining) (isMarked marks) (rowIn (now (memory .entry)) i)) ⌝ }
 {
-    put_value_octets(memory, i * 64, number, payload, remaining);
+    put_value_octets(memory, i * ROW_SIZE, number, payload, remaining);
     marks::put_marks(memory, i, marks);
 }
 
@@ -145,7 +158,7 @@ fn clear_row(memory: &mut [u8], i: usize)
     ensures { λ _. ⌜ now (memory .exit) ≡ putAt (now (memory .entry)) (rowPlace i) (lists.replicate rowSize 0) ⌝ }
 {
     let zeros = [0u8; 64];
-    octets::put(memory, i * 64, &zeros);
+    octets::put(memory, i * ROW_SIZE, &zeros);
 }
 
 pub fn free_at(memory: &mut [u8], i: usize)
@@ -201,7 +214,7 @@ fn is_gone(memory: &[u8], i: usize) -> bool
     if !rows::is_used(memory, i) {
         return false;
     }
-    if octets::octet(memory, 4096 + i) != 0 {
+    if octets::octet(memory, MARKS_AT + i) != 0 {
         return false;
     }
     is_purged(rows::number_of(memory, i))
@@ -221,7 +234,7 @@ pub fn sweep(memory: &mut [u8])
     ensures { λ _. ⌜ memoryOf (now (memory .exit)) ≡ withRows (swept (rowsIn (now (memory .entry)))) (memoryOf (now (memory .entry))) ⌝ }
 {
     let mut i: usize = 0;
-    while i < 64 {
+    while i < ROWS {
         sweep_row(memory, i);
         i += 1;
     }

@@ -1,0 +1,42 @@
+// Sizes and places of the memory's layout, as specs/Layout.antt has them.
+
+pub const ROWS: usize = 64;
+
+pub const REQUESTS: usize = 64;
+
+pub const PACKET: usize = 284;
+
+pub const ID: usize = 4;
+
+pub const KEY: usize = 16;
+
+pub const PAYLOAD: usize = 32;
+
+// In a row or a request.
+pub const NUMBER_PLACE: usize = 4;
+
+pub const ORIGINATOR_PLACE: usize = 8;
+
+pub const KEY_PLACE: usize = 12;
+
+pub const PAYLOAD_PLACE: usize = 28;
+
+// The payload's room and the four octets behind it.
+pub const ROW_TAIL: usize = 36;
+
+// The sections.
+pub const ROW_SIZE: usize = 64;
+
+pub const MARKS_AT: usize = 4096;
+
+pub const REQUESTS_AT: usize = 4160;
+
+pub const ROOMS_AT: usize = 4162;
+
+pub const REQUEST_SIZE: usize = 28;
+
+pub const LIST_SIZE: usize = 1794;
+
+pub const KEPT_AT: usize = 18512;
+
+pub const KEPT_SIZE: usize = 286;
