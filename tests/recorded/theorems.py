@@ -23,8 +23,9 @@ use Rattle.protocol.specs.Answers.{fixedCode}
 use Rattle.protocol.specs.Reading.{recordAt, recordsAt, receiversAt, messageAt, readPacket}
 use Rattle.rules.specs.Rows.{next}
 use Rattle.rules.specs.Events.{codeOf, acted, step, writtenAt}
-use Rattle.rules.specs.Replay.{linesFrom, replay, replayed}
-use Rattle.runs.specs.Recorded.{octetsOf, event, file, line, cut}
+use Rattle.protocol.proofs.Worked.{octetsOf}
+use Rattle.rules.specs.Replay.{cut, linesFrom, replay, replayed}
+use Rattle.runs.specs.Recorded.{event, file, line}
 """
 UNFOLD = ("unfolding octetsOf replayed replay linesFrom codeOf acted step writtenAt next total recordOctets recordsOctets receiversOctets "
           "mandatory layout packetOf headCheck elementCheck elementsCheck mandatoryCheck fixedCode recordAt recordsAt receiversAt "

@@ -1,14 +1,10 @@
 -- How a recorded file and its lines are written down: a record by its first octets, the rest of its 292 being 0.
 -- Assumes nothing.
-use Prim.Native.Nat.{ℕ, zero, suc, _-_, _/_, _%_}
+use Prim.Native.Nat.{ℕ, _-_}
 use mathlib.Core.List.{List, [], _∷_, _++_}
 use lib.ListN.{replicate}
+use Rattle.protocol.proofs.Worked.{octetsOf}
 use Rattle.rules.specs.Replay.{recordSize, Line}
-
--- the last n octets of a number, most significant first
-unfoldable pub octetsOf : ℕ → ℕ → List ℕ → List ℕ
-octetsOf zero x acc = acc
-octetsOf (suc n) x acc = octetsOf n (x / 256) (x % 256 ∷ acc)
 
 -- a record whose first n octets are these
 abbrev pub event : ℕ → ℕ → List ℕ
@@ -21,6 +17,3 @@ file (r ∷ rs) = r ++ file rs
 -- a line: event number, code, octets written and rows used; the octets are given by their number
 abbrev pub line : ℕ → ℕ → ℕ → ℕ → ℕ → Line
 line n code size rows x = record { numbers = n ∷ code ∷ size ∷ rows ∷ []; octets = octetsOf size x [] }
-
-abbrev pub cut : Line
-cut = record { numbers = []; octets = [] }

@@ -1,5 +1,5 @@
 //! A reference for the directory server of document 01, written from the
-//! papers alone: packets (`wire`), the state and its eight events (`state`
+//! papers and the readings settled in docs/DECISIONS.md: packets (`wire`), the state and its eight events (`state`
 //! and `server`, with the rules of 01 section by section in `hello`,
 //! `alignment`, `requests`, `updates` and `poll`), and the replay program
 //! (`replay`). `generate` makes random replay files.
