@@ -4,6 +4,7 @@ pub mod RowPlaces
 pub mod RowLoops
 pub mod RowReads
 pub mod RowPuts
+pub mod RowValues
 pub mod RowSweep
 pub mod RowInsert
 pub mod RowLaws
@@ -17,6 +18,8 @@ pub mod Rooms
 pub mod RoomReads
 pub mod RequestLists
 pub mod RequestSteps
+pub mod RequestMoves
 pub mod KeptLaws
 pub mod RequestLaws
+pub mod RequestRounds
 pub mod TakenIn

@@ -2,7 +2,7 @@
 -- Assumes nothing.
 use Prim.Native.Nat.{ℕ, _+_, _<_}
 use mathlib.Core.Path.{_≡_, refl, sym, ap, _∙_, subst}
-use mathlib.Core.Bool.{Bool, true, false}
+use mathlib.Core.Bool.{Bool, true, false, not, false≢true}
 use mathlib.Core.List.{List}
 use native.Mathlib.Omega.{arith}
 use lib.Dec.{eqb}
@@ -14,13 +14,13 @@ use Rattle.laws.specs.Tables.{on}
 use Rattle.protocol.specs.declared.CsaNumber.{CsaNumber}
 use Rattle.protocol.specs.Fields.{octet, field2, field4}
 use Rattle.protocol.specs.Numbers.{csaOf, newer}
-use Rattle.rules.specs.Server.{rowsMost, Row, free, used, waitsFor, rowAt}
+use Rattle.rules.specs.Server.{rowsMost, Row, free, used, isFree, isUsed, waitsFor, rowAt}
 use Rattle.rules.specs.Rows.{unmarked}
 use Rattle.rules.specs.Updates.{owed, replied}
 use Rattle.memory.specs.Layout.{rowSize, requestSize, memorySize, rowPlace, markPlace, numberPlace}
 use Rattle.memory.specs.Memory.{entryAt, valueAt, isMarked, rowIn, rowsIn, memoryOf, withRows}
 use Rattle.memory.specs.Marks.{withMarks, marked, changedAt}
-use Rattle.memory.proofs.RowPlaces.{row-get, usedRow, octet-free, octet-used, row-case, as-changed, marks-are, same-row, only-marks, only-row}
+use Rattle.memory.proofs.RowPlaces.{row-get, usedRow, free-row, octet-free, octet-used, row-case, as-changed, marks-are, same-row, only-marks, only-row}
 use Rattle.memory.proofs.Frame.{Same, same-within, entry-same, value-same}
 
 -- ---- a row by its octets
@@ -66,6 +66,13 @@ unfolding memoryOf
 changed-not f s i e = ap (λ (rows : List Row). withRows rows (memoryOf s)) (sym (ap (set (rowsIn s) i) e ∙ set-getD (rowsIn s) i free))
 
 module _ (s : List ℕ) (i : ℕ) (h : i < rowsMost) where
+  -- a free row
+  pub free-same : (f : Row → Row) → f free ≡ free → isUsed (rowIn s i) ≡ false → memoryOf s ≡ changedAt f i s
+  free-same f e u = let r : rowAt (rowsIn s) i ≡ free = row-get s i h ∙ free-row s i u in changed-not f s i (ap f r ∙ e ∙ sym r)
+
+  pub not-free : {A : Type 0} → isUsed (rowIn s i) ≡ true → isFree (rowAt (rowsIn s) i) ≡ true → A
+  not-free u f = absurd (false≢true (sym (ap not (ap isFree (sym (row-get s i h)) ∙ f)) ∙ u))
+
   -- the marks put are those that were, but for slot k
   pub marks-on : (k b r : ℕ) (v : Bool) → b ≡ octet s (markPlace i) → isMarked r ≡ on k v (isMarked b)
       → withMarks (isMarked r) (rowAt (rowsIn s) i) ≡ withMarks (on k v (isMarked (octet s (markPlace i)))) (rowAt (rowsIn s) i)

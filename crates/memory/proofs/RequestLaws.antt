@@ -1,24 +1,22 @@
--- Laws of a request list under the rules: one request an entry, in order, and each among the first four within sixteen rounds.
+-- Laws of a request list under the rules: one request an entry, in order.
 -- Assumes nothing.
-use Prim.Native.Nat.{ℕ, zero, suc, _+_, _*_, _-_, _/_, _%_, _≤_, _<_}
+use Prim.Native.Nat.{suc, _≤_}
 use mathlib.Core.Path.{_≡_, refl, sym, ap, _∙_, subst}
 use mathlib.Core.Bool.{Bool, true, false, _||_}
 use mathlib.Core.List.{List, [], _∷_, _++_, map, append-nil, append-assoc}
 use native.Mathlib.Omega.{arith}
 use lib.Dec.{ltb}
-use lib.ListN.{length, take, drop, getD, length-take, length-drop, length-append, List·getD-append, take-append-drop}
-use lib.Seq.{take-append-le, drop-append-le, drop-drop, take-add, getD-take, getD-drop}
+use lib.ListN.{length, take, drop, take-append-drop}
 use Rattle.laws.specs.Choice.{pick}
-use Rattle.laws.specs.Tables.{has, change, without, Perm, none, skip, swap, trans, In, here, there}
+use Rattle.laws.specs.Tables.{has, change, without, Perm, none, skip, swap, trans}
 use Rattle.laws.proofs.Lists.{map-append}
-use Rattle.laws.proofs.Bools.{pick-of}
-use Rattle.laws.proofs.Bools.{or-false}
+use Rattle.laws.proofs.Bools.{pick-of, or-false}
+use Rattle.laws.proofs.Each.{picked}
 use Rattle.laws.proofs.Tables.{same-sym}
 use Rattle.laws.proofs.Perms.{perm-refl, perm-has}
 use Rattle.protocol.specs.declared.CsaNumber.{CsaNumber}
 use Rattle.rules.specs.Server.{Entry, sameEntry, Request}
 use Rattle.rules.specs.Requests.{asks, raised, join, Wanted, acknowledged, dropped, rotated}
-use Rattle.memory.specs.Lists.{noRequest}
 
 -- ---- one request an entry
 abbrev pub OneEach : List Request → Type 0
@@ -26,7 +24,7 @@ OneEach [] = Unit {0}
 OneEach (q ∷ qs) = (has (asks (q .entry)) qs ≡ false) × OneEach qs
 
 module _ (p : Request → Bool) where
-  none-left : (f : Request → Bool) (l : List Request) → has f l ≡ false → has f (without p l) ≡ false
+  pub none-left : (f : Request → Bool) (l : List Request) → has f l ≡ false → has f (without p l) ≡ false
   none-left f [] h = refl
   none-left f (q ∷ l) h =
       let r = or-false (f q) (has f l) h in
@@ -72,20 +70,21 @@ module _ (x : Request) where
       let r = or-false (asks (x .entry) q) (has (asks (x .entry)) l) g in
       (has-behind (asks (q .entry)) l (h .0) (same-entry-sym (x .entry) (q .entry) ∙ r .0), one-behind l (h .1) (r .1))
 
--- what holds of the list with the number raised, of the list with one more, and of the list, holds of the list that the entry joined
-join-list : (P : List Request → Type 0) (e : Entry) (n : CsaNumber) (w : Wanted) → P (change (asks e) (raised n) (w .requests))
-    → (has (asks e) (w .requests) ≡ false → P (w .requests ++ (record { entry = e; number = n } ∷ []))) → P (w .requests) → P (join e n w .requests)
+-- what holds of the list with the number raised, of the list with one more where there is room, and of the list, holds of the list that the entry joined
+pub join-list : (P : List Request → Type 0) (e : Entry) (n : CsaNumber) (w : Wanted) → P (change (asks e) (raised n) (w .requests))
+    → (has (asks e) (w .requests) ≡ false → ltb (length (w .requests)) 64 ≡ true → P (w .requests ++ (record { entry = e; number = n } ∷ []))) → P (w .requests)
+    → P (join e n w .requests)
 join-list P e n w a b c = by (has (asks e) (w .requests)) refl where
   by : (x : Bool) → has (asks e) (w .requests) ≡ x → P (join e n w .requests)
   by true g = rw g a
   by false g =
       rw g
-      (pick-of (λ (z : Wanted). P (z .requests)) (ltb (length (w .requests)) 64)
+      (picked (λ (z : Wanted). P (z .requests)) (ltb (length (w .requests)) 64)
       (record { requests = w .requests ++ (record { entry = e; number = n } ∷ []); missed = w .missed })
-      (record { requests = w .requests; missed = pick (ltb (w .missed) 65535) (suc (w .missed)) (w .missed) }) (b g) c)
+      (record { requests = w .requests; missed = pick (ltb (w .missed) 65535) (suc (w .missed)) (w .missed) }) (b g) (λ _. c))
 
 pub join-one : (e : Entry) (n : CsaNumber) (w : Wanted) → OneEach (w .requests) → OneEach (join e n w .requests)
-join-one e n w h = join-list OneEach e n w (one-raised e n (w .requests) h) (one-behind (record { entry = e; number = n }) (w .requests) h) h
+join-one e n w h = join-list OneEach e n w (one-raised e n (w .requests) h) (λ g _. one-behind (record { entry = e; number = n }) (w .requests) h g) h
 
 -- ---- another order
 one-perm : {l m : List Request} → Perm l m → OneEach l → OneEach m
@@ -133,6 +132,11 @@ within-without p [] = end
 within-without p (x ∷ l) =
     pick-of (λ z. Within z (x ∷ l)) (p x) (without p l) (x ∷ without p l) (pass x (within-without p l)) (keep x (within-without p l))
 
+pub within-short : {A : Type 0} {l m : List A} → Within l m → length l ≤ length m
+within-short end = omega arith
+within-short (keep x w) = let h = within-short w in omega arith
+within-short (pass x w) = let h = within-short w in omega arith
+
 pub acknowledged-order : (e : Entry) (n : CsaNumber) (l : List Request) → Within (acknowledged e n l) l
 acknowledged-order e n l = within-without _ l
 
@@ -153,44 +157,5 @@ pub join-order : (e : Entry) (n : CsaNumber) (w : Wanted) → Within (entriesOf 
 join-order e n w =
     let l : List Request = w .requests in
     join-list (λ (z : List Request). Within (entriesOf l) (entriesOf z)) e n w (rw (entries-raised e n l) (within-all (entriesOf l)))
-    (λ g. rw (map-append (λ (q : Request). q .entry) l (record { entry = e; number = n } ∷ [])) (within-more (entriesOf l) (e ∷ [])))
+    (λ g _. rw (map-append (λ (q : Request). q .entry) l (record { entry = e; number = n } ∷ [])) (within-more (entriesOf l) (e ∷ [])))
     (within-all (entriesOf l))
-
--- ---- rounds of 'first four to the end'
-abbrev pub rounds : ℕ → List Request → List Request
-rounds zero l = l
-rounds (suc t) l = rotated (rounds t l)
-
-rotated-more : (l : List Request) (m : ℕ) → m + 4 ≤ length l → rotated (drop m l ++ take m l) ≡ drop (m + 4) l ++ take (m + 4) l
-rotated-more l m h =
-    let a : List Request = drop m l in
-    let b : List Request = take m l in
-    let four : 4 ≤ length a = simp length-drop (omega arith) in
-    (λ j. drop-append-le 4 a b four j ++ take-append-le 4 a b four j) ∙ append-assoc (drop 4 a) b (take 4 a)
-    ∙ (λ j. drop-drop 4 m l j ++ sym (take-add m 4 l) j)
-
-rounds-are : (l : List Request) (t : ℕ) → t * 4 ≤ length l → rounds t l ≡ drop (t * 4) l ++ take (t * 4) l
-rounds-are l zero h = sym (append-nil l)
-rounds-are l (suc t) h =
-    let e : t * 4 + 4 ≡ suc t * 4 = omega arith in
-    ap rotated (rounds-are l t (omega arith)) ∙ rotated-more l (t * 4) (omega arith) ∙ ap (λ (m : ℕ). drop m l ++ take m l) e
-
-in-list : (m : List Request) (j : ℕ) → j < length m → In (getD m j noRequest) m
-in-list [] j h = absurd (omega arith)
-in-list (x ∷ m) zero h = here
-in-list (x ∷ m) (suc j) h = there (in-list m j (omega arith))
-
--- each request of a list of at most 64 is among the first four after fewer than sixteen rounds
-pub comes-round : (l : List Request) (i : ℕ) → length l ≤ 64 → i < length l → (t : ℕ) × ((t ≤ 15) × In (getD l i noRequest) (take 4 (rounds t l)))
-comes-round l i most h =
-    let t : ℕ = i / 4 in
-    let j : ℕ = i % 4 in
-    let e : t * 4 + j ≡ i = omega arith in
-    let a : List Request = drop (t * 4) l in
-    let r : List Request = a ++ take (t * 4) l in
-    let room : j < length a = simp length-drop (omega arith) in
-    let front : j < length (take 4 r) = simp (length-take, length-append) (omega arith) in
-    let is : getD (take 4 r) j noRequest ≡ getD l i noRequest =
-    getD-take 4 r j noRequest (omega arith) ∙ List·getD-append a (take (t * 4) l) noRequest j room ∙ getD-drop (t * 4) l j noRequest
-    ∙ ap (λ (m : ℕ). getD l m noRequest) e in
-    (t, (omega arith, rw (rounds-are l t (omega arith)) (subst (λ (q : Request). In q (take 4 r)) is (in-list (take 4 r) j front))))

@@ -3,7 +3,7 @@
 use Prim.Native.Nat.{ℕ, suc, _+_, _-_, _≤_, _<_, min}
 use mathlib.Core.Path.{_≡_, refl, sym, ap, _∙_, subst, fun-ext}
 use mathlib.Core.Bool.{Bool, true, false, not, _&&_, false≢true}
-use mathlib.Core.List.{List, [], _∷_, _++_, append-nil}
+use mathlib.Core.List.{List, [], _∷_, _++_}
 use native.Mathlib.Numerals.{add-one}
 use native.Mathlib.Omega.{arith}
 use lib.Dec.{ltb}
@@ -13,17 +13,18 @@ use borrow.Author.Tests.{lt-ltb, le-ltb}
 use Rattle.laws.specs.Choice.{pick}
 use Rattle.laws.specs.Tables.{has, change, without}
 use Rattle.laws.proofs.Lists.{take-taken}
+use Rattle.laws.proofs.Tables.{room}
 use Rattle.protocol.specs.declared.CsaNumber.{CsaNumber}
 use Rattle.protocol.specs.Fields.{field2}
 use Rattle.protocol.specs.Numbers.{newer}
 use Rattle.rules.specs.Server.{Entry, Request}
-use Rattle.rules.specs.Requests.{asks, raised, join, Wanted, dropped, rotated}
+use Rattle.rules.specs.Requests.{asks, raised, join, Wanted, dropped}
 use Rattle.memory.specs.Layout.{listPlace}
 use Rattle.memory.specs.Memory.{requestIn, requestsIn, Memory, memoryOf, withRequests, requestsOf}
-use Rattle.memory.specs.Lists.{roomsIn, noRequest, Listed, placeOf, goes, Joins, Sifts, movedUp, turned}
-use Rattle.memory.proofs.Rooms.{rooms-length, rooms-get, requests-in, requests-of, listed-none, listed-then, listed-requests, listed-memory}
+use Rattle.memory.specs.Lists.{roomsIn, noRequest, Listed, placeOf, goes, Joins}
+use Rattle.memory.proofs.Rooms.{rooms-length, rooms-get, requests-in, requests-of, listed-none, listed-then, listed-requests}
 use Rattle.memory.proofs.RoomReads.{room-is, raised-newer, raised-not}
-use Rattle.memory.proofs.RequestLists.{place-hit, place-miss, placed, nowhere, Sifted, sifted-none, sifted-more, moved-more, turned-set, turned-take, turn-more, turn-end}
+use Rattle.memory.proofs.RequestLists.{place-hit, place-miss, placed, nowhere}
 
 -- ---- one change after another
 module _ {k n : ℕ} {l : List Request} {s t : List ℕ} (p : Listed k n l s t) where
@@ -113,6 +114,9 @@ pub goes-dropped : (k : ℕ) (e : Entry) (n : CsaNumber) (m m′ : Memory) → m
     → m′ ≡ withRequests k (dropped e (requestsOf m k)) m
 goes-dropped k e n m m′ h = h ∙ ap (λ (p : Request → Bool). withRequests k (without p (requestsOf m k)) m) (fun-ext (λ q. and-all (asks e q)))
 
+pub goes-none : (e : Entry) (n : CsaNumber) (l : List Request) → has (asks e) l ≡ false → has (goes true e n) l ≡ false
+goes-none e n l h = ap (λ (p : Request → Bool). has p l) (fun-ext (λ q. and-all (asks e q))) ∙ h
+
 -- ---- joining
 module _ (e : Entry) (n : CsaNumber) (l : List Request) (missed : ℕ) where
   join-has : has (asks e) l ≡ true
@@ -178,88 +182,3 @@ module _ (s : List ℕ) (k : ℕ) (slot : k < 8) (e : Entry) (n : CsaNumber) (mi
       subst (Joins k e n missed s s) (sym c)
       (joined s l (pick (ltb missed 65535) (suc missed) missed) refl (listed-none s k slot .others)
       (join-misses e n l missed (nowhere (asks e) noRequest l (omega arith)) (omega arith)) (λ none most. refl))
-
--- ---- those that go
-module _ (s t : List ℕ) (k : ℕ) (p : Request → Bool) (i w : ℕ) (r : Bool) (is : r ≡ p (getD (roomsIn s k) i noRequest)) where
-  pub sift-gone : k < 8 → r ≡ true → Sifts k p i w s s w
-  sift-gone slot g = let x : p (getD (roomsIn s k) i noRequest) ≡ true = sym is ∙ g in record { next = rw x; list = rw x (listed-none s k slot) }
-
-  pub sift-stays : r ≡ false → Listed k (field2 s (listPlace k)) (set (roomsIn s k) w (getD (roomsIn s k) i noRequest)) s t → Sifts k p i w s t (w + 1)
-  sift-stays g q = let x : p (getD (roomsIn s k) i noRequest) ≡ false = sym is ∙ g in record { next = rw (x, add-one); list = rw x q }
-
--- so far: the first i of the list are gone through
-pub record Sifting (k : ℕ) (p : Request → Bool) (i w : ℕ) (s t : List ℕ) : Type 0 where
-  pub list : Listed k (field2 s (listPlace k)) (roomsIn t k) s t
-  pub rooms : Sifted p noRequest (roomsIn s k) (roomsIn t k) i w
-
-pub sifting-none : (k : ℕ) (p : Request → Bool) (s : List ℕ) → k < 8 → Sifting k p 0 0 s s
-sifting-none k p s slot = record { list = listed-none s k slot; rooms = sifted-none p noRequest (roomsIn s k) }
-
-pub sifting-more : (k : ℕ) (p : Request → Bool) (i w r : ℕ) (s t u : List ℕ) → i < 64 → Sifting k p i w s t → Sifts k p i w t u r → Sifting k p (i + 1) r s u
-sifting-more k p i w r s t u h so q =
-    let a = sifted-more p noRequest (roomsIn s k) (roomsIn t k) i w (omega (arith, rooms-length s k)) (so .rooms) in
-    record {
-      list = then-any (so .list) u (roomsIn u k) (record { used = q .list .used; held = refl; others = q .list .others });
-      rooms = rw (q .list .held, q .next, add-one i) a;
-    }
-
-pub sift-end : (k : ℕ) (p : Request → Bool) (n i w : ℕ) (s t u : List ℕ) → k < 8 → n ≡ length (requestsIn s k) → i ≡ n → Sifting k p i w s t
-    → Listed k w (roomsIn t k) t u → memoryOf u ≡ withRequests k (without p (requestsOf (memoryOf s) k)) (memoryOf s)
-sift-end k p n i w s t u slot long all so q =
-    listed-memory (then-sized (so .list) u w q)
-    ∙ ap (λ (z : List Request). withRequests k z (memoryOf s))
-    (so .rooms .front ∙ ap (λ (j : ℕ). without p (take j (roomsIn s k))) all
-    ∙ ap (without p) (list-take s k n long ∙ sym (requests-of s k slot)))
-
--- ---- the first one to the end
-pub move-more : (k n i : ℕ) (s t u : List ℕ) → i + 1 < 64 → Listed k n (movedUp i (roomsIn s k)) s t
-    → Listed k (field2 t (listPlace k)) (set (roomsIn t k) i (getD (roomsIn t k) (i + 1) noRequest)) t u → Listed k n (movedUp (i + 1) (roomsIn s k)) s u
-move-more k n i s t u h p q =
-    let e : i + 1 ≡ suc i = add-one i in
-    let l : List Request = roomsIn s k in
-    let m : List Request = movedUp i l in
-    rooms-are (movedUp (i + 1) l)
-    (ap (λ (j : ℕ). set m i (getD m j noRequest)) e ∙ moved-more noRequest l i (omega (arith, rooms-length s k)) ∙ ap (λ (j : ℕ). movedUp j l) (sym e))
-    (then-moved p u (λ r. set r i (getD r (i + 1) noRequest)) q)
-
-pub turn-done : (k n last : ℕ) (x : Request) (s t u : List ℕ) → last < 64 → x ≡ getD (roomsIn s k) 0 noRequest → Listed k n (movedUp last (roomsIn s k)) s t
-    → Listed k (field2 t (listPlace k)) (set (roomsIn t k) last x) t u → Listed k n (turned last (roomsIn s k)) s u
-turn-done k n last x s t u h e p q =
-    let l : List Request = roomsIn s k in
-    rooms-are (turned last l)
-    (turned-set noRequest l last x (omega (arith, rooms-length s k)) ∙ ap (λ (y : Request). take last (drop 1 l) ++ (y ∷ drop (suc last) l)) e)
-    (then-moved p u (λ r. set r last x) q)
-
--- so far: the first i of n have moved to the end
-pub record Turning (k n i : ℕ) (s t : List ℕ) : Type 0 where
-  pub list : Listed k (field2 s (listPlace k)) (roomsIn t k) s t
-  pub rooms : take n (roomsIn t k) ≡ drop i (requestsIn s k) ++ take i (requestsIn s k)
-
-pub turning-none : (k n : ℕ) (s : List ℕ) → k < 8 → n ≡ length (requestsIn s k) → Turning k n 0 s s
-turning-none k n s slot long = record { list = listed-none s k slot; rooms = list-take s k n long ∙ sym (append-nil (requestsIn s k)) }
-
-pub turning-more : (k n i : ℕ) (s t u : List ℕ) → n ≤ 64 → n ≡ length (requestsIn s k) → i < n → Turning k n i s t
-    → Listed k (field2 t (listPlace k)) (turned (n - 1) (roomsIn t k)) t u → Turning k n (i + 1) s u
-turning-more k n i s t u few-enough long h so q =
-    let l : List Request = requestsIn s k in
-    let r : List Request = roomsIn t k in
-    let e : n ≡ suc (n - 1) = omega arith in
-    record {
-      list = then-any (so .list) u (turned (n - 1) r) q;
-      rooms =
-          (λ j. take (e j) (q .held j)) ∙ turned-take noRequest r (n - 1) (omega (arith, rooms-length t k))
-          ∙ ap (λ (m : ℕ). drop 1 (take m r) ++ take 1 (take m r)) (sym e) ∙ ap (λ (z : List Request). drop 1 z ++ take 1 z) (so .rooms)
-          ∙ turn-more noRequest l i (omega arith) ∙ ap (λ (m : ℕ). drop m l ++ take m l) (sym (add-one i));
-    }
-
-pub turning-end : (k n i : ℕ) (s t : List ℕ) → k < 8 → n ≡ length (requestsIn s k) → i ≡ min 4 n → Turning k n i s t
-    → memoryOf t ≡ withRequests k (rotated (requestsOf (memoryOf s) k)) (memoryOf s)
-turning-end k n i s t slot long all so =
-    let l : List Request = requestsIn s k in
-    let f : ℕ = field2 s (listPlace k) in
-    let r : List Request = roomsIn t k in
-    let e : length (take f r) ≡ n =
-    length-take f r ∙ ap (min f) (rooms-length t k ∙ sym (rooms-length s k)) ∙ sym (length-take f (roomsIn s k)) ∙ ap length (sym (requests-in s k)) ∙ sym long in
-    listed-memory (so .list)
-    ∙ ap (λ (z : List Request). withRequests k z (memoryOf s))
-    (sym (take-taken f r .1) ∙ ap (λ (m : ℕ). take m r) e ∙ so .rooms ∙ turn-end l i (all ∙ ap (min 4) long) ∙ ap rotated (sym (requests-of s k slot)))

@@ -2,17 +2,14 @@
 -- Assumes nothing.
 use Prim.Native.Nat.{ℕ, zero, suc, _+_, _-_, _*_, _/_, _%_, _≤_, _<_}
 use mathlib.Core.Path.{_≡_, refl, sym, ap, _∙_}
-use mathlib.Core.Bool.{Bool, true, false}
 use mathlib.Core.List.{List, _∷_, _++_}
 use native.Mathlib.Nat.{not-suc-le-zero, le-of-suc-le-suc}
 use native.Mathlib.Omega.{arith}
-use lib.Dec.{eqb}
 use lib.ListN.{length, take, drop, set, replicate, length-append, length-drop, length-replicate}
 use lib.Seq.{take-at, drop-at, drop-drop, take-take, take-append-seam, take-append-le, drop-append-le, drop-append-add, length-take-le}
 use mir.Syntax.{w32}
 use mir.Val.{SFits}
 use mir.ValLaws.{toZ-ofZ}
-use Rattle.laws.specs.Choice.{pick}
 use Rattle.laws.specs.Lists.{part}
 use Rattle.laws.specs.Puts.{putAt}
 use Rattle.laws.proofs.Puts.{put-length}
@@ -22,8 +19,8 @@ use Rattle.protocol.specs.Numbers.{csaOf, bitsOf}
 use Rattle.rules.specs.Server.{rowsMost, Entry, Value, free, used}
 use Rattle.memory.specs.Layout.{rowSize, memorySize, rowPlace, markPlace}
 use Rattle.memory.specs.Memory.{entryAt, valueAt, isMarked, rowIn, memoryOf}
-use Rattle.memory.specs.Search.{withRow, revalued, padded, valueHead, rowOctets, FitsRow, PutRow}
-use Rattle.memory.proofs.Frame.{Same, put-inside, put-before, put-behind, same-trans, same-within, field2-same, field4-same, part-same, entry-same, value-same}
+use Rattle.memory.specs.Search.{withRow, padded, rowOctets, FitsRow, PutRow}
+use Rattle.memory.proofs.Frame.{put-inside, same-within, part-same, entry-same, value-same}
 use Rattle.memory.proofs.RowPlaces.{octet-free, octet-used, marks-are, same-row, RowOnly, only-trans, only-put, only-marks, only-row}
 
 pub take-zeros : (k n : ℕ) → k ≤ n → take {A = ℕ} k (replicate n 0) ≡ replicate k 0
@@ -72,7 +69,7 @@ number-back n b e f =
     let g : ((b / 16777216 * 256 + b / 65536 % 256) * 256 + b / 256 % 256) * 256 + b % 256 ≡ b = omega arith in
     ap csaOf (g ∙ e) ∙ (λ k. record { 0 = toZ-ofZ w32 (n .0) f k })
 
-payload-back : (p : List ℕ) → length p ≤ 32 → take (length p) (take 32 (padded 36 p)) ≡ p
+pub payload-back : (p : List ℕ) → length p ≤ 32 → take (length p) (take 32 (padded 36 p)) ≡ p
 payload-back p h = take-take (length p) 32 (padded 36 p) h ∙ take-append-seam p (replicate (36 - length p) 0)
 
 pub hops-back : (r : ℕ) → r / 256 * 256 + r % 256 ≡ r
@@ -184,95 +181,3 @@ row-put s t u i e v x h l f n p q =
       rows = ap memoryOf r ∙ only-row i s w h (only-this s i h l bs long x) (used e v (isMarked x)) row;
       octets = ap (λ z. part z (rowPlace i) rowSize) r ∙ row-octets s i h l bs long x;
     }
-
--- ---- a value put into a row
-module _ (s : List ℕ) (i : ℕ) (v : Value) (x : ℕ) (h : i < rowsMost) (l : length s ≡ memorySize) (short : length (v .payload) ≤ 32) (n : SFits w32 (v .number .0)) where
-  abbrev one : List ℕ
-  one = putAt s (rowPlace i + 1) (valueHead v)
-
-  abbrev two : List ℕ
-  two = putAt one (rowPlace i + 28) (padded 36 (v .payload))
-
-  abbrev all : List ℕ
-  all = set two (markPlace i) x
-
-  long : length (padded 36 (v .payload)) ≡ 36
-  long = padded-length 36 (v .payload) (omega arith)
-
-  one-size : length one ≡ memorySize
-  one-size = put-length s (rowPlace i + 1) (valueHead v) (omega arith) ∙ l
-
-  two-size : length two ≡ memorySize
-  two-size = let p = one-size in let q = long in put-length one (rowPlace i + 28) (padded 36 (v .payload)) (omega arith) ∙ p
-
-  -- up to the payload, as after the first put
-  head : Same (rowPlace i) (rowPlace i + 28) all one
-  head =
-      let p = one-size in
-      let q = long in
-      same-trans (same-within (rowPlace i) (rowPlace i + 28) (omega arith) (omega arith) (same-row two i x h two-size))
-      (put-before one (padded 36 (v .payload)) (rowPlace i + 28) (omega arith) (rowPlace i) (rowPlace i + 28) (omega arith))
-
-  first : octet all (rowPlace i) ≡ octet s (rowPlace i)
-  first =
-      head .octets (rowPlace i) (omega arith) (omega arith)
-      ∙ put-before s (valueHead v) (rowPlace i + 1) (omega arith) (rowPlace i) (rowPlace i + 1) (omega arith) .octets (rowPlace i) (omega arith) (omega arith)
-
-  middle : Same (rowPlace i + 8) (rowPlace i + 28) all s
-  middle =
-      same-trans (same-within (rowPlace i + 8) (rowPlace i + 28) (omega arith) (omega arith) head)
-      (put-behind s (valueHead v) (rowPlace i + 1) (omega arith) (rowPlace i + 8) (rowPlace i + 28) (omega arith))
-
-  entry-kept : entryAt all (rowPlace i) ≡ entryAt s (rowPlace i)
-  entry-kept =
-      let at : ℕ = rowPlace i in
-      λ k. record {
-        key = take (first k) (part-same (at + 8) (at + 28) all s middle (at + 12) 16 (omega arith) (omega arith) k);
-        originator = part-same (at + 8) (at + 28) all s middle (at + 8) 4 (omega arith) (omega arith) k;
-      }
-
-  payload-at : part all (rowPlace i + 28) 32 ≡ take 32 (padded 36 (v .payload))
-  payload-at =
-      let at : ℕ = rowPlace i in
-      let p = one-size in
-      let q = long in
-      let e : at + 28 ≡ at + 28 + 0 = omega arith in
-      part-same at (at + rowSize) all two (same-row two i x h two-size) (at + 28) 32 (omega arith) (omega arith)
-      ∙ ap (λ (z : ℕ). part two z 32) e
-      ∙ part-inside one (padded 36 (v .payload)) (at + 28) (omega arith) 0 32 (omega arith)
-
-  length-at : octet all (rowPlace i + 1) ≡ length (v .payload)
-  length-at =
-      head .octets (rowPlace i + 1) (omega arith) (omega arith)
-      ∙ octet-inside s (valueHead v) (rowPlace i + 1) (omega arith) 0 (rowPlace i + 1) (omega arith) (omega arith)
-
-  value-new : valueAt all (rowPlace i) ≡ v
-  value-new =
-      let at : ℕ = rowPlace i in
-      λ k. record {
-        number = (ap csaOf (field4-same at (at + 28) all one head (at + 4) (omega arith) (omega arith) ∙ field4-inside s (valueHead v) (at + 1) (omega arith) 3 (at + 4) (omega arith) (omega arith)) ∙ number-back (v .number) (bitsOf (v .number)) refl n) k;
-        payload = ((λ j. take (length-at j) (payload-at j)) ∙ payload-back (v .payload) short) k;
-        remaining = (field2-same at (at + 28) all one head (at + 2) (omega arith) (omega arith) ∙ field2-inside s (valueHead v) (at + 1) (omega arith) 1 (at + 2) (omega arith) (omega arith) ∙ hops-back (v .remaining)) k;
-      }
-
-  revalued-by : (b : Bool) (e : Entry) (w : Value) (m : ℕ → Bool) → pick b free (used e v (isMarked x)) ≡ revalued v (isMarked x) (pick b free (used e w m))
-  revalued-by true e w m = refl
-  revalued-by false e w m = refl
-
-  row-new : rowIn all i ≡ revalued v (isMarked x) (rowIn s i)
-  unfolding rowIn
-  row-new =
-      (λ k. pick (eqb (first k) 0) free (used (entry-kept k) (value-new k) (isMarked (marks-are two i x h two-size k))))
-      ∙ revalued-by (eqb (octet s (rowPlace i)) 0) (entryAt s (rowPlace i)) (valueAt s (rowPlace i)) (isMarked (octet s (markPlace i)))
-
-  only-value : RowOnly i s all
-  only-value =
-      let p = one-size in
-      let q = long in
-      only-trans i s one all (only-put i s (valueHead v) (rowPlace i + 1) h l (omega arith) (omega arith))
-      (only-trans i one two all (only-put i one (padded 36 (v .payload)) (rowPlace i + 28) h p (omega arith) (omega arith)) (only-marks i two x h))
-
-  -- what `put_value` leaves
-  pub value-changed : (t u : List ℕ) → t ≡ two → u ≡ set t (markPlace i) x → memoryOf u ≡ withRow s i (revalued v (isMarked x) (rowIn s i))
-  value-changed t u p q =
-      ap memoryOf (q ∙ ap (λ z. set z (markPlace i) x) p) ∙ only-row i s all h only-value (revalued v (isMarked x) (rowIn s i)) row-new

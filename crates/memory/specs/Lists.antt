@@ -49,16 +49,17 @@ placeOf p (x ∷ xs) = pick (p x) 0 (suc (placeOf p xs))
 abbrev pub goes : Bool → Entry → CsaNumber → Request → Bool
 goes all e n q = asks e q && (all || not (newer (q .number) n))
 
--- what a function ensures that has a request join slot k's list, of the memory and of the missed that it answers
-pub record Joins (k : ℕ) (e : Entry) (n : CsaNumber) (missed : ℕ) (before after : List ℕ) (r : ℕ) : Type 0 where
-  pub list : memoryOf after ≡ withRequests k (join e n (record { requests = requestsOf (memoryOf before) k; missed = missed }) .requests) (memoryOf before)
-  pub count : r ≡ join e n (record { requests = requestsOf (memoryOf before) k; missed = missed }) .missed
-  pub kept : has (asks e) (requestsOf (memoryOf before) k) ≡ false → ltb (length (requestsOf (memoryOf before) k)) requestsMost ≡ false → after ≡ before
-
--- the list and the missed count after a summary of the entry: as `takenIn` of the rules, for a record of this key, originator and number
+-- slot k's list with a number of requests that found no room
 abbrev pub wantedNow : ℕ → ℕ → List ℕ → Wanted
 wantedNow k missed s = record { requests = requestsOf (memoryOf s) k; missed = missed }
 
+-- what a function ensures that has a request join slot k's list, of the memory and of the missed that it answers
+pub record Joins (k : ℕ) (e : Entry) (n : CsaNumber) (missed : ℕ) (before after : List ℕ) (r : ℕ) : Type 0 where
+  pub list : memoryOf after ≡ withRequests k (join e n (wantedNow k missed before) .requests) (memoryOf before)
+  pub count : r ≡ join e n (wantedNow k missed before) .missed
+  pub kept : has (asks e) (requestsOf (memoryOf before) k) ≡ false → ltb (length (requestsOf (memoryOf before) k)) requestsMost ≡ false → after ≡ before
+
+-- the list and the missed count after a summary of the entry: as `takenIn` of the rules, for a record of this key, originator and number
 abbrev pub wantedAfter : ℕ → Entry → CsaNumber → ℕ → List ℕ → Wanted
 wantedAfter k e n missed s = pick (has (upToDate e n) (rowsIn s)) (wantedNow k missed s) (join e n (wantedNow k missed s))
 
@@ -73,6 +74,7 @@ pub record Sifts (k : ℕ) (p : Request → Bool) (i w : ℕ) (before after : Li
   pub next : r ≡ pick (p (getD (roomsIn before k) i noRequest)) w (suc w)
   pub list : Listed k (field2 before (listPlace k))
       (pick (p (getD (roomsIn before k) i noRequest)) (roomsIn before k) (set (roomsIn before k) w (getD (roomsIn before k) i noRequest))) before after
+  pub kept : w ≡ i → after ≡ before
 
 -- each room up to `last` holds what the next one held; `last` is as it was
 abbrev pub movedUp : ℕ → List Request → List Request

@@ -1,10 +1,10 @@
 -- What the functions on rows answer, and what they leave in the memory.
 -- Assumes nothing.
-use Prim.Native.Nat.{ℕ, suc, _-_, _≤_}
+use Prim.Native.Nat.{ℕ, suc, _+_, _-_, _≤_}
 use mathlib.Core.Path.{_≡_}
-use mathlib.Core.Bool.{Bool, false, not, _&&_}
+use mathlib.Core.Bool.{Bool, false, _&&_}
 use mathlib.Core.List.{List, [], _∷_, _++_}
-use lib.ListN.{length, replicate}
+use lib.ListN.{length, take, replicate}
 use lib.ListN as lists
 use Rattle.laws.specs.Choice.{pick}
 use Rattle.laws.specs.Lists.{part}
@@ -12,13 +12,13 @@ use Rattle.laws.specs.Tables.{has}
 use Rattle.protocol.specs.Sizes.{idLength, keyMost, payloadMost}
 use Rattle.protocol.specs.Fields.{put2, put4}
 use Rattle.protocol.specs.Numbers.{bitsOf}
-use Rattle.rules.specs.Server.{Entry, Value, Row, free, used, isFree}
-use Rattle.rules.specs.Rows.{isPurged, anySlot, filled}
+use Rattle.rules.specs.Server.{Entry, Value, Row, free, used, isFree, isUsed}
+use Rattle.rules.specs.Rows.{filled, sweptRow}
 use Rattle.memory.specs.declared.rows.Found.{Found}
 use Rattle.memory.specs.declared.rows.Found.the-variants.{At, Nothing}
 use Rattle.memory.specs.declared.store.Inserted.{Inserted}
 use Rattle.memory.specs.declared.store.Inserted.the-variants.{Stored, Full}
-use Rattle.memory.specs.Layout.{rowSize, rowPlace}
+use Rattle.memory.specs.Layout.{originatorPlace, rowSize, rowPlace}
 use Rattle.memory.specs.Memory.{rowsIn, Memory, memoryOf, withRows}
 
 abbrev pub entry : List ℕ → List ℕ → Entry
@@ -54,6 +54,10 @@ rowHead e v = (length (e .key) ∷ []) ++ (valueHead v ++ e .originator)
 abbrev pub rowOctets : Entry → Value → List ℕ
 rowOctets e v = rowHead e v ++ (padded keyMost (e .key) ++ padded 36 (v .payload))
 
+-- and with another value: key length, originator and key stay
+abbrev pub revaluedOctets : Value → List ℕ → List ℕ
+revaluedOctets v row = take 1 row ++ (valueHead v ++ (part row originatorPlace (idLength + keyMost) ++ padded 36 (v .payload)))
+
 -- what a row has room for
 pub record FitsRow (key originator payload : List ℕ) : Type 0 where
   pub some-key : 1 ≤ length key
@@ -74,5 +78,4 @@ pub record Inserts (r : Row) (before after : List ℕ) (a : Inserted) : Type 0 w
 
 -- a row that the end of an event frees
 abbrev pub goes : Row → Bool
-goes free = false
-goes (used e v m) = isPurged (v .number) && not (anySlot m)
+goes r = isUsed r && isFree (sweptRow r)

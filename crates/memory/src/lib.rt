@@ -6,6 +6,7 @@ mod layout;
 pub mod marks;
 pub mod next;
 pub mod requests;
+mod room;
 pub mod rows;
 mod sizes;
 pub mod store;

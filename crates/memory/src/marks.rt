@@ -6,7 +6,7 @@ ghost use Prim.Native.Nat.{_^_, _<_};
 ghost use lib.ListN.{length};
 ghost use Rattle.laws.specs.Tables.{on};
 ghost use Rattle.protocol.specs.Fields.{octet};
-ghost use Rattle.rules.specs.Server.{slotsMost, rowsMost, waitsFor, rowAt};
+ghost use Rattle.rules.specs.Server.{slotsMost, rowsMost, isFree, waitsFor, rowAt};
 ghost use Rattle.rules.specs.Rows as rules;
 ghost use Rattle.rules.specs.Updates.{owed, replied};
 ghost use Rattle.memory.specs.Layout.{memorySize, markPlace};
@@ -42,7 +42,7 @@ fn is_marked(b: u8, k: usize) -> bool
 }
 
 // The octet with slot k's mark.
-fn with_mark(b: u8, k: usize) -> u8
+pub fn with_mark(b: u8, k: usize) -> u8
     requires { ⌜ k < slotsMost ⌝ }
     ensures { λ r. ⌜ isMarked r ≡ on k true (isMarked b) ⌝ }
 {
@@ -105,7 +105,11 @@ pub fn put_marks(memory: &mut [u8], i: usize, marks: u8)
 pub fn set_mark(memory: &mut [u8], i: usize, k: usize)
     requires { ⌜ (length (now memory) ≡ memorySize) × ((i < rowsMost) × (k < slotsMost)) ⌝ }
     ensures { λ _. ⌜ memoryOf (now (memory .exit)) ≡ changedAt (marked k) i (now (memory .entry)) ⌝ }
+    ensures kept { λ _. ⌜ (isFree (rowAt (rowsIn (now (memory .entry))) i) ≡ true → now (memory .exit) ≡ now (memory .entry)) ⌝ }
 {
+    if !rows::is_used(memory, i) {
+        return;
+    }
     let b = with_mark(marks_of(memory, i), k);
     put_marks(memory, i, b);
 }
@@ -114,7 +118,11 @@ pub fn set_mark(memory: &mut [u8], i: usize, k: usize)
 pub fn clear_mark(memory: &mut [u8], i: usize, k: usize)
     requires { ⌜ (length (now memory) ≡ memorySize) × ((i < rowsMost) × (k < slotsMost)) ⌝ }
     ensures { λ _. ⌜ memoryOf (now (memory .exit)) ≡ changedAt (rules.unmarked k) i (now (memory .entry)) ⌝ }
+    ensures kept { λ _. ⌜ (isFree (rowAt (rowsIn (now (memory .entry))) i) ≡ true → now (memory .exit) ≡ now (memory .entry)) ⌝ }
 {
+    if !rows::is_used(memory, i) {
+        return;
+    }
     let b = without_mark(marks_of(memory, i), k);
     put_marks(memory, i, b);
 }
@@ -123,6 +131,7 @@ pub fn clear_mark(memory: &mut [u8], i: usize, k: usize)
 pub fn owe(memory: &mut [u8], i: usize, k: usize)
     requires { ⌜ (length (now memory) ≡ memorySize) × ((i < rowsMost) × (k < slotsMost)) ⌝ }
     ensures { λ _. ⌜ memoryOf (now (memory .exit)) ≡ changedAt (owed k) i (now (memory .entry)) ⌝ }
+    ensures kept { λ _. ⌜ (isFree (rowAt (rowsIn (now (memory .entry))) i) ≡ true → now (memory .exit) ≡ now (memory .entry)) ⌝ }
 {
     if octets::field2(memory, i * ROW_SIZE + 2) == 0 {
         return;
@@ -134,6 +143,7 @@ pub fn owe(memory: &mut [u8], i: usize, k: usize)
 pub fn settle(memory: &mut [u8], i: usize, k: usize, number: CsaNumber)
     requires { ⌜ (length (now memory) ≡ memorySize) × ((i < rowsMost) × (k < slotsMost)) ⌝ }
     ensures { λ _. ⌜ memoryOf (now (memory .exit)) ≡ changedAt (replied k number) i (now (memory .entry)) ⌝ }
+    ensures kept { λ _. ⌜ (isFree (rowAt (rowsIn (now (memory .entry))) i) ≡ true → now (memory .exit) ≡ now (memory .entry)) ⌝ }
 {
     let held = rows::number_of(memory, i);
     if numbers::newer(number, held) {

@@ -1,35 +1,33 @@
 // The request lists: of each slot the entries that its peer has and we want, 64 at most.
 ghost use mathlib.Core.Path.{_≡_};
-ghost use mathlib.Core.Bool.{true};
+ghost use mathlib.Core.Bool.{true, false};
 ghost use mathlib.Core.List.{[]};
 ghost use Prim.Native.Nat.{suc, _+_, _≤_, _<_, min};
 ghost use lib.Dec.{ltb};
 ghost use lib.ListN.{length, getD, set};
 ghost use Rattle.laws.specs.Choice.{pick};
-ghost use Rattle.laws.specs.Puts.{putAt};
-ghost use Rattle.laws.specs.Tables.{without};
+ghost use Rattle.laws.specs.Tables.{has, without};
 ghost use Rattle.protocol.specs.Fields.{field2};
 ghost use Rattle.rules.specs.Requests as rules;
-ghost use Rattle.memory.specs.Layout.{memorySize, listPlace, requestPlace};
+ghost use Rattle.memory.specs.Layout.{memorySize, listPlace};
 ghost use Rattle.memory.specs.Memory.{requestIn, requestsIn, memoryOf, withRequests, requestsOf};
 ghost use Rattle.memory.specs.Lists as lists;
 ghost use Rattle.memory.specs.Search.{entry};
-ghost use Rattle.memory.specs.Lists.{requestOf, roomsIn, noRequest, Listed, placeOf, Joins};
+ghost use Rattle.memory.specs.Lists.{roomsIn, noRequest, Listed, placeOf, Joins};
 use crate::layout::ID;
 use crate::layout::KEY;
 use crate::layout::KEY_PLACE;
 use crate::layout::LIST_SIZE;
 use crate::layout::NUMBER_PLACE;
 use crate::layout::ORIGINATOR_PLACE;
-use crate::layout::REQUEST_SIZE;
 use crate::layout::REQUESTS;
 use crate::layout::REQUESTS_AT;
-use crate::layout::ROOMS_AT;
+use crate::room;
 use crate::rows;
 use crate::sizes;
 use protocol::CsaNumber;
 
-// ---- where they stand
+// ---- the count
 fn list_place(k: usize) -> usize
     requires { ⌜ k < 8 ⌝ }
     ensures { λ r. ⌜ (r ≡ listPlace k) × (r + 1794 ≤ memorySize) ⌝ }
@@ -37,128 +35,12 @@ fn list_place(k: usize) -> usize
     REQUESTS_AT + k * LIST_SIZE
 }
 
-fn room_place(k: usize, i: usize) -> usize
-    requires { ⌜ (k < 8) × (i < 64) ⌝ }
-    ensures { λ r. ⌜ (r ≡ requestPlace k i) × (r + 28 ≤ memorySize) ⌝ }
-{
-    ROOMS_AT + k * LIST_SIZE + i * REQUEST_SIZE
-}
-
-// ---- reading
 // How many requests there are.
 pub fn count(memory: &[u8], k: usize) -> usize
     requires { ⌜ (k < 8) × (length (now memory) ≡ memorySize) ⌝ }
     ensures { λ r. ⌜ (r ≡ length (requestsIn (now (memory .entry)) k)) × (r ≤ 64) ⌝ }
 {
     sizes::size_at(memory, list_place(k), REQUESTS)
-}
-
-// The number, the key and the originator of request i.
-pub fn number_at(memory: &[u8], k: usize, i: usize) -> CsaNumber
-    requires { ⌜ (k < 8) × ((i < 64) × (length (now memory) ≡ memorySize)) ⌝ }
-    ensures { λ r. ⌜ r ≡ requestIn (now (memory .entry)) k i .number ⌝ }
-{
-    numbers::csa_of(octets::field4(memory, room_place(k, i) + NUMBER_PLACE))
-}
-
-pub fn key_at(memory: &[u8], k: usize, i: usize) -> &[u8]
-    requires { ⌜ (k < 8) × ((i < 64) × (length (now memory) ≡ memorySize)) ⌝ }
-    ensures { λ r. ⌜ now r ≡ requestIn (now (memory .entry)) k i .entry .key ⌝ }
-{
-    let at = room_place(k, i);
-    let n = octets::octet(memory, at) as usize;
-    octets::first(octets::part_of(memory, at + KEY_PLACE, KEY), n)
-}
-
-pub fn originator_at(memory: &[u8], k: usize, i: usize) -> &[u8]
-    requires { ⌜ (k < 8) × ((i < 64) × (length (now memory) ≡ memorySize)) ⌝ }
-    ensures { λ r. ⌜ now r ≡ requestIn (now (memory .entry)) k i .entry .originator ⌝ }
-{
-    octets::part_of(memory, room_place(k, i) + ORIGINATOR_PLACE, ID)
-}
-
-// Whether request i is for the entry.
-fn asks(memory: &[u8], k: usize, i: usize, key: &[u8], originator: &[u8]) -> bool
-    requires { ⌜ (k < 8) × ((i < 64) × (length (now memory) ≡ memorySize)) ⌝ }
-    ensures { λ r. ⌜ r ≡ rules.asks (entry (now (key .entry)) (now (originator .entry))) (getD (roomsIn (now (memory .entry)) k) i noRequest) ⌝ }
-{
-    rows::entry_is(memory, room_place(k, i), key, originator)
-}
-
-// ---- one request as the octets of its room
-// The octets of a room, and octets into a room.
-fn lift(memory: &[u8], k: usize, i: usize) -> [u8; 28]
-    requires { ⌜ (k < 8) × ((i < 64) × (length (now memory) ≡ memorySize)) ⌝ }
-    ensures { λ r. ⌜ (length r ≡ 28) × (requestOf r ≡ getD (roomsIn (now (memory .entry)) k) i noRequest) ⌝ }
-{
-    let mut q = [0u8; 28];
-    bytes::copy(
-        octets::part_of(memory, room_place(k, i), REQUEST_SIZE),
-        &mut q,
-    );
-    q
-}
-
-fn lay(memory: &mut [u8], k: usize, i: usize, q: &[u8])
-    requires { ⌜ (k < 8) × ((i < 64) × ((length (now q) ≡ 28) × (length (now memory) ≡ memorySize))) ⌝ }
-    ensures { λ _. ⌜ Listed k (field2 (now (memory .entry)) (listPlace k)) (set (roomsIn (now (memory .entry)) k) i (requestOf (now (q .entry)))) (now (memory .entry)) (now (memory .exit)) ⌝ }
-{
-    octets::put(memory, room_place(k, i), q);
-}
-
-fn copy_request(memory: &mut [u8], k: usize, from: usize, to: usize)
-    requires { ⌜ (k < 8) × ((from < 64) × ((to < 64) × (length (now memory) ≡ memorySize))) ⌝ }
-    ensures { λ _. ⌜ Listed k (field2 (now (memory .entry)) (listPlace k)) (set (roomsIn (now (memory .entry)) k) to (getD (roomsIn (now (memory .entry)) k) from noRequest)) (now (memory .entry)) (now (memory .exit)) ⌝ }
-{
-    let q = lift(memory, k, from);
-    lay(memory, k, to, &q)
-}
-
-// b with src in its place from at on.
-fn put_in(b: [u8; 28], at: usize, src: &[u8]) -> [u8; 28]
-    requires { ⌜ at + length (now src) ≤ 28 ⌝ }
-    ensures { λ r. ⌜ (length r ≡ 28) × (r ≡ putAt b at (now (src .entry))) ⌝ }
-{
-    let mut q = b;
-    let to = at + src.len();
-    bytes::copy(src, &mut q[at..to]);
-    q
-}
-
-// A room's octets with key length and number; originator and key are zero.
-fn head(n: u8, bits: u32) -> [u8; 28]
-    ensures { λ r. ⌜ r ≡ lists.headOf n bits ⌝ }
-{
-    let mut q = [0u8; 28];
-    q[0] = n;
-    q[4] = (bits / 16777216) as u8;
-    q[5] = (bits / 65536 % 256) as u8;
-    q[6] = (bits / 256 % 256) as u8;
-    q[7] = (bits % 256) as u8;
-    q
-}
-
-fn pack(key: &[u8], originator: &[u8], number: CsaNumber) -> [u8; 28]
-    requires { ⌜ (length (now key) ≤ 16) × (length (now originator) ≡ 4) ⌝ }
-    ensures { λ r. ⌜ (length r ≡ 28) × (requestOf r ≡ record { entry = entry (now (key .entry)) (now (originator .entry)); number = number }) ⌝ }
-{
-    let b = head(key.len() as u8, numbers::bits_of(number));
-    put_in(put_in(b, ORIGINATOR_PLACE, originator), KEY_PLACE, key)
-}
-
-fn put_request(
-    memory: &mut [u8],
-    k: usize,
-    i: usize,
-    key: &[u8],
-    originator: &[u8],
-    number: CsaNumber,
-)
-    requires { ⌜ ((k < 8) × (i < 64)) × (((length (now key) ≤ 16) × (length (now originator) ≡ 4)) × (length (now memory) ≡ memorySize)) ⌝ }
-    ensures { λ _. ⌜ Listed k (field2 (now (memory .entry)) (listPlace k)) (set (roomsIn (now (memory .entry)) k) i (record { entry = entry (now (key .entry)) (now (originator .entry)); number = number })) (now (memory .entry)) (now (memory .exit)) ⌝ }
-{
-    let q = pack(key, originator, number);
-    lay(memory, k, i, &q)
 }
 
 fn set_count(memory: &mut [u8], k: usize, n: usize)
@@ -174,6 +56,39 @@ pub fn empty(memory: &mut [u8], k: usize)
     ensures { λ _. ⌜ memoryOf (now (memory .exit)) ≡ withRequests k [] (memoryOf (now (memory .entry))) ⌝ }
 {
     set_count(memory, k, 0)
+}
+
+// ---- reading
+// The number, the key and the originator of request i.
+pub fn number_at(memory: &[u8], k: usize, i: usize) -> CsaNumber
+    requires { ⌜ (k < 8) × ((i < 64) × (length (now memory) ≡ memorySize)) ⌝ }
+    ensures { λ r. ⌜ r ≡ requestIn (now (memory .entry)) k i .number ⌝ }
+{
+    numbers::csa_of(octets::field4(memory, room::place(k, i) + NUMBER_PLACE))
+}
+
+pub fn key_at(memory: &[u8], k: usize, i: usize) -> &[u8]
+    requires { ⌜ (k < 8) × ((i < 64) × (length (now memory) ≡ memorySize)) ⌝ }
+    ensures { λ r. ⌜ now r ≡ requestIn (now (memory .entry)) k i .entry .key ⌝ }
+{
+    let at = room::place(k, i);
+    let n = octets::octet(memory, at) as usize;
+    octets::first(octets::part_of(memory, at + KEY_PLACE, KEY), n)
+}
+
+pub fn originator_at(memory: &[u8], k: usize, i: usize) -> &[u8]
+    requires { ⌜ (k < 8) × ((i < 64) × (length (now memory) ≡ memorySize)) ⌝ }
+    ensures { λ r. ⌜ now r ≡ requestIn (now (memory .entry)) k i .entry .originator ⌝ }
+{
+    octets::part_of(memory, room::place(k, i) + ORIGINATOR_PLACE, ID)
+}
+
+// Whether request i is for the entry.
+fn asks(memory: &[u8], k: usize, i: usize, key: &[u8], originator: &[u8]) -> bool
+    requires { ⌜ (k < 8) × ((i < 64) × (length (now memory) ≡ memorySize)) ⌝ }
+    ensures { λ r. ⌜ r ≡ rules.asks (entry (now (key .entry)) (now (originator .entry))) (getD (roomsIn (now (memory .entry)) k) i noRequest) ⌝ }
+{
+    rows::entry_is(memory, room::place(k, i), key, originator)
 }
 
 // ---- an entry joins
@@ -200,7 +115,7 @@ fn raise(memory: &mut [u8], k: usize, i: usize, key: &[u8], originator: &[u8], n
     ensures { λ _. ⌜ Listed k (field2 (now (memory .entry)) (listPlace k)) (set (roomsIn (now (memory .entry)) k) i (rules.raised number (getD (roomsIn (now (memory .entry)) k) i noRequest))) (now (memory .entry)) (now (memory .exit)) ⌝ }
 {
     if numbers::newer(number, number_at(memory, k, i)) {
-        put_request(memory, k, i, key, originator, number);
+        room::put_request(memory, k, i, key, originator, number);
     }
 }
 
@@ -209,7 +124,7 @@ fn append(memory: &mut [u8], k: usize, n: usize, key: &[u8], originator: &[u8], 
     requires { ⌜ ((k < 8) × (n < 64)) × (((length (now key) ≤ 16) × (length (now originator) ≡ 4)) × (length (now memory) ≡ memorySize)) ⌝ }
     ensures { λ _. ⌜ Listed k (n + 1) (set (roomsIn (now (memory .entry)) k) n (record { entry = entry (now (key .entry)) (now (originator .entry)); number = number })) (now (memory .entry)) (now (memory .exit)) ⌝ }
 {
-    put_request(memory, k, n, key, originator, number);
+    room::put_request(memory, k, n, key, originator, number);
     set_count(memory, k, n + 1)
 }
 
@@ -270,7 +185,7 @@ fn goes(
     false
 }
 
-// Request i goes, or moves to w: the next place to move one to.
+// Request i goes, or moves to w, where it may stand already: the next place to move one to.
 fn sift_one(
     memory: &mut [u8],
     k: usize,
@@ -287,14 +202,18 @@ fn sift_one(
     if goes(memory, k, i, key, originator, all, number) {
         return w;
     }
-    copy_request(memory, k, i, w);
+    if w == i {
+        return w + 1;
+    }
+    room::copy_request(memory, k, i, w);
     w + 1
 }
 
-// The requests that stay move up, in order.
+// The requests that stay move up, in order. Where none goes, no octet is written.
 fn sift(memory: &mut [u8], k: usize, key: &[u8], originator: &[u8], all: bool, number: CsaNumber)
     requires { ⌜ (k < 8) × (length (now memory) ≡ memorySize) ⌝ }
     ensures { λ _. ⌜ memoryOf (now (memory .exit)) ≡ withRequests k (without (lists.goes all (entry (now (key .entry)) (now (originator .entry))) number) (requestsOf (memoryOf (now (memory .entry))) k)) (memoryOf (now (memory .entry))) ⌝ }
+    ensures kept { λ _. ⌜ (has (lists.goes all (entry (now (key .entry)) (now (originator .entry))) number) (requestsOf (memoryOf (now (memory .entry))) k) ≡ false → now (memory .exit) ≡ now (memory .entry)) ⌝ }
 {
     let n = count(memory, k);
     let mut w: usize = 0;
@@ -303,13 +222,16 @@ fn sift(memory: &mut [u8], k: usize, key: &[u8], originator: &[u8], all: bool, n
         w = sift_one(memory, k, i, w, key, originator, all, number);
         i += 1;
     }
-    set_count(memory, k, w)
+    if w < n {
+        set_count(memory, k, w);
+    }
 }
 
 // The entry's request goes if its number is no greater.
 pub fn acknowledge(memory: &mut [u8], k: usize, key: &[u8], originator: &[u8], number: CsaNumber)
     requires { ⌜ (k < 8) × (length (now memory) ≡ memorySize) ⌝ }
     ensures { λ _. ⌜ memoryOf (now (memory .exit)) ≡ withRequests k (rules.acknowledged (entry (now (key .entry)) (now (originator .entry))) number (requestsOf (memoryOf (now (memory .entry))) k)) (memoryOf (now (memory .entry))) ⌝ }
+    ensures kept { λ _. ⌜ (has (lists.goes false (entry (now (key .entry)) (now (originator .entry))) number) (requestsOf (memoryOf (now (memory .entry))) k) ≡ false → now (memory .exit) ≡ now (memory .entry)) ⌝ }
 {
     sift(memory, k, key, originator, false, number)
 }
@@ -318,6 +240,7 @@ pub fn acknowledge(memory: &mut [u8], k: usize, key: &[u8], originator: &[u8], n
 pub fn drop_entry(memory: &mut [u8], k: usize, key: &[u8], originator: &[u8])
     requires { ⌜ (k < 8) × (length (now memory) ≡ memorySize) ⌝ }
     ensures { λ _. ⌜ memoryOf (now (memory .exit)) ≡ withRequests k (rules.dropped (entry (now (key .entry)) (now (originator .entry))) (requestsOf (memoryOf (now (memory .entry))) k)) (memoryOf (now (memory .entry))) ⌝ }
+    ensures kept { λ _. ⌜ (has (rules.asks (entry (now (key .entry)) (now (originator .entry)))) (requestsOf (memoryOf (now (memory .entry))) k) ≡ false → now (memory .exit) ≡ now (memory .entry)) ⌝ }
 {
     sift(memory, k, key, originator, true, CsaNumber(0))
 }
@@ -330,7 +253,7 @@ fn move_up(memory: &mut [u8], k: usize, last: usize)
 {
     let mut i: usize = 0;
     while i < last {
-        copy_request(memory, k, i + 1, i);
+        room::copy_request(memory, k, i + 1, i);
         i += 1;
     }
 }
@@ -340,9 +263,9 @@ fn turn(memory: &mut [u8], k: usize, last: usize)
     requires { ⌜ (k < 8) × ((last < 64) × (length (now memory) ≡ memorySize)) ⌝ }
     ensures { λ _. ⌜ Listed k (field2 (now (memory .entry)) (listPlace k)) (lists.turned last (roomsIn (now (memory .entry)) k)) (now (memory .entry)) (now (memory .exit)) ⌝ }
 {
-    let q = lift(memory, k, 0);
+    let q = room::lift(memory, k, 0);
     move_up(memory, k, last);
-    lay(memory, k, last, &q)
+    room::lay(memory, k, last, &q)
 }
 
 fn at_most_four(n: usize) -> usize

@@ -3,6 +3,7 @@ ghost use mathlib.Core.Path.{_≡_};
 ghost use Prim.Native.Nat.{_+_, _≤_, _<_};
 ghost use lib.ListN.{length};
 ghost use lib.ListN as lists;
+ghost use Rattle.laws.specs.Lists.{part};
 ghost use Rattle.laws.specs.Puts.{putAt, Put};
 ghost use Rattle.protocol.specs.Sizes.{payloadMost};
 ghost use Rattle.rules.specs.Server.{rowsMost, free, used};
@@ -10,7 +11,7 @@ ghost use Rattle.rules.specs.Rows.{isPurged, sweptRow, swept};
 ghost use Rattle.rules.specs.Updates.{value};
 ghost use Rattle.memory.specs.Layout.{rowSize, memorySize, rowPlace};
 ghost use Rattle.memory.specs.Memory.{isMarked, rowIn, rowsIn, memoryOf, withRows, freshMemory};
-ghost use Rattle.memory.specs.Search.{entry, withRow, revalued, padded, valueHead, rowHead, rowOctets, FitsRow, PutRow, Inserts, goes};
+ghost use Rattle.memory.specs.Search.{entry, withRow, revalued, padded, valueHead, rowHead, rowOctets, revaluedOctets, FitsRow, PutRow, Inserts, goes};
 use crate::layout::MARKS_AT;
 use crate::layout::PAYLOAD_PLACE;
 use crate::layout::ROW_SIZE;
@@ -148,6 +149,7 @@ pub fn put_value(
 )
     requires { ⌜ (length (now memory) ≡ memorySize) × ((i < rowsMost) × (length (now payload) ≤ payloadMost)) ⌝ }
     ensures { λ _. ⌜ memoryOf (now (memory .exit)) ≡ withRow (now (memory .entry)) i (revalued (value number (now (payload .entry)) remaining) (isMarked marks) (rowIn (now (memory .entry)) i)) ⌝ }
+    ensures octets { λ _. ⌜ part (now (memory .exit)) (rowPlace i) rowSize ≡ revaluedOctets (value number (now (payload .entry)) remaining) (part (now (memory .entry)) (rowPlace i) rowSize) ⌝ }
 {
     put_value_octets(memory, i * ROW_SIZE, number, payload, remaining);
     marks::put_marks(memory, i, marks);

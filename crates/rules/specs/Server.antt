@@ -101,7 +101,7 @@ noTimers = record { hello = Never; ca = Never; csus = Never; update = Never }
 abbrev pub freshSlot : Slot
 freshSlot = record {
   used = false;
-  peer = [];
+  peer = replicate idLength 0;
   link = freshLink;
   timers = noTimers;
   kept = [];

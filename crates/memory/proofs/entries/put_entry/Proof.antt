@@ -13,7 +13,7 @@ put-value-requires : tie.Need-put-value-requires
 put-value-requires c κs = let a = c .before .before .before .before .before .before .before .before .before .before .args in let i = c .before .before .i .given in (c .before .before .before .before .before .before .before .before .before .before .pre .0, (found-below (holds (entry (a .key .now) (a .originator .now))) (a .memory .now) (i .0 .0) (sym (c .before .before .before .before .find .ensures) ∙ i .1), c .before .before .before .before .before .before .before .before .before .before .pre .1 .payload-fits))
 
 returns : tie.Need-returns
-returns c = let a = c .before .before .before .before .before .before .before .before .before .before .before .before .before .args in let i = c .before .before .before .before .before .i .given in entry-held (entry (a .key .now) (a .originator .now)) (a .memory .now) (i .0 .0) (sym (c .before .before .before .before .before .before .before .find .ensures) ∙ i .1) (revalued (value (a .number) (a .payload .now) (a .remaining)) (isMarked (a .marks))) (c .before .before .put-value .last .0) (used (entry (a .key .now) (a .originator .now)) (value (a .number) (a .payload .now) (a .remaining)) (isMarked (a .marks))) (c .before .before .put-value .ensures)
+returns c = let a = c .before .before .before .before .before .before .before .before .before .before .before .before .before .args in let i = c .before .before .before .before .before .i .given in entry-held (entry (a .key .now) (a .originator .now)) (a .memory .now) (i .0 .0) (sym (c .before .before .before .before .before .before .before .find .ensures) ∙ i .1) (revalued (value (a .number) (a .payload .now) (a .remaining)) (isMarked (a .marks))) (c .before .before .put-value .last .0) (used (entry (a .key .now) (a .originator .now)) (value (a .number) (a .payload .now) (a .remaining)) (isMarked (a .marks))) (c .before .before .put-value .ensures .0)
 
 returns-2 : tie.Need-returns-2
 returns-2 c = let a = c .before .before .before .before .before .before .before .before .before .before .before .before .args in entry-new (entry (a .key .now) (a .originator .now)) (a .memory .now) (sym (c .before .before .before .before .before .before .find .ensures) ∙ c .before .before .before .before .enum-told .given .1) (revalued (value (a .number) (a .payload .now) (a .remaining)) (isMarked (a .marks))) (c .before .before .insert .last .0) (used (entry (a .key .now) (a .originator .now)) (value (a .number) (a .payload .now) (a .remaining)) (isMarked (a .marks))) (c .before .before .insert .ensures .rows)

@@ -12,7 +12,7 @@ settle-requires : tie.Need-settle-requires
 settle-requires c κs = let a = c .before .before .before .before .before .before .before .before .before .args in let i = c .before .before .i .given in let h = found-below (holds (entry (a .key .now) (a .originator .now))) (a .memory .now) (i .0 .0) (sym (c .before .before .before .before .find .ensures) ∙ i .1) in (c .before .before .before .before .before .before .before .before .before .pre .0, (h, c .before .before .before .before .before .before .before .before .before .pre .1))
 
 returns : tie.Need-returns
-returns c = let a = c .before .before .before .before .before .before .before .before .before .before .before .before .args in let i = c .before .before .before .before .before .i .given in (entry-marked (entry (a .key .now) (a .originator .now)) (a .memory .now) (i .0 .0) (sym (c .before .before .before .before .before .before .before .find .ensures) ∙ i .1) (replied (a .k) (a .number)) (c .before .before .settle .last .0) (c .before .before .settle .ensures), found-kept (entry (a .key .now) (a .originator .now)) (a .memory .now) (i .0 .0) (sym (c .before .before .before .before .before .before .before .find .ensures) ∙ i .1) (c .before .before .settle .last .0))
+returns c = let a = c .before .before .before .before .before .before .before .before .before .before .before .before .args in let i = c .before .before .before .before .before .i .given in (entry-marked (entry (a .key .now) (a .originator .now)) (a .memory .now) (i .0 .0) (sym (c .before .before .before .before .before .before .before .find .ensures) ∙ i .1) (replied (a .k) (a .number)) (c .before .before .settle .last .0) (c .before .before .settle .ensures .0), found-kept (entry (a .key .now) (a .originator .now)) (a .memory .now) (i .0 .0) (sym (c .before .before .before .before .before .before .before .find .ensures) ∙ i .1) (c .before .before .settle .last .0))
 
 returns-2 : tie.Need-returns-2
 returns-2 c = let a = c .before .before .before .before .before .before .before .args in (entry-absent (entry (a .key .now) (a .originator .now)) (a .memory .now) (sym (c .before .before .find .ensures) ∙ c .enum-told .given .1) (replied (a .k) (a .number)), λ h. refl)

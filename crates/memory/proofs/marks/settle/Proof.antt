@@ -1,7 +1,7 @@
 use Rattle.memory.proofs.MarkLaws.{changed-as, changed-not, replied-newer, replied-older, replied-same}
 use Rattle.rules.specs.Updates.{replied}
 use Rattle.rules.specs.Rows.{unmarked}
-use mathlib.Core.Path.{sym, _∙_}
+use mathlib.Core.Path.{refl, sym, _∙_}
 use borrow.Author.Needs.{needs}
 use Rattle.memory.proofs.marks.settle.Statement.{statement}
 use Rattle.memory.proofs.marks.settle.Tie as tie
@@ -9,24 +9,30 @@ use Rattle.memory.proofs.marks.settle.Tie as tie
 returns : tie.Need-returns
 returns c =
     let a = c .before .before .before .before .before .args in
-    let s = a .memory .now in
-    changed-not (replied (a .k) (a .number)) s (a .i)
-    (replied-newer s (a .i) (c .before .before .before .before .before .pre .1 .0) (a .k) (a .number) (c .before .before .number-of .result) (c .before .before .number-of .ensures) (sym (c .before .newer .ensures) ∙ c .if1 .taken))
+    let s = a .memory .now in (
+      changed-not (replied (a .k) (a .number)) s (a .i)
+          (replied-newer s (a .i) (c .before .before .before .before .before .pre .1 .0) (a .k) (a .number) (c .before .before .number-of .result) (c .before .before .number-of .ensures) (sym (c .before .newer .ensures) ∙ c .if1 .taken)),
+      λ f. refl,
+    )
 
 returns-2 : tie.Need-returns-2
 returns-2 c =
     let a = c .before .before .before .before .before .before .before .args in
-    let s = a .memory .now in
-    changed-not (replied (a .k) (a .number)) s (a .i)
-    (replied-older s (a .i) (c .before .before .before .before .before .before .before .pre .1 .0) (a .k) (a .number) (c .before .before .before .before .number-of .result) (c .before .before .before .before .number-of .ensures) (sym (c .before .before .before .newer .ensures) ∙ c .before .before .if1 .left) (sym (c .before .newer2 .ensures) ∙ c .if2 .taken))
+    let s = a .memory .now in (
+      changed-not (replied (a .k) (a .number)) s (a .i)
+          (replied-older s (a .i) (c .before .before .before .before .before .before .before .pre .1 .0) (a .k) (a .number) (c .before .before .before .before .number-of .result) (c .before .before .before .before .number-of .ensures) (sym (c .before .before .before .newer .ensures) ∙ c .before .before .if1 .left) (sym (c .before .newer2 .ensures) ∙ c .if2 .taken)),
+      λ f. refl,
+    )
 
 returns-3 : tie.Need-returns-3
 returns-3 c =
     let a = c .before .before .before .before .before .before .before .before .before .before .before .args in
-    let s = a .memory .now in
-    c .before .before .clear-mark .ensures
-    ∙ changed-as (unmarked (a .k)) (replied (a .k) (a .number)) s (a .i)
-    (replied-same s (a .i) (c .before .before .before .before .before .before .before .before .before .before .before .pre .1 .0) (a .k) (a .number) (c .before .before .before .before .before .before .before .before .number-of .result) (c .before .before .before .before .before .before .before .before .number-of .ensures) (sym (c .before .before .before .before .before .before .before .newer .ensures) ∙ c .before .before .before .before .before .before .if1 .left) (sym (c .before .before .before .before .before .newer2 .ensures) ∙ c .before .before .before .before .if2 .left))
+    let s = a .memory .now in (
+      c .before .before .clear-mark .ensures .0
+          ∙ changed-as (unmarked (a .k)) (replied (a .k) (a .number)) s (a .i)
+          (replied-same s (a .i) (c .before .before .before .before .before .before .before .before .before .before .before .pre .1 .0) (a .k) (a .number) (c .before .before .before .before .before .before .before .before .number-of .result) (c .before .before .before .before .before .before .before .before .number-of .ensures) (sym (c .before .before .before .before .before .before .before .newer .ensures) ∙ c .before .before .before .before .before .before .if1 .left) (sym (c .before .before .before .before .before .newer2 .ensures) ∙ c .before .before .before .before .if2 .left)),
+      c .before .before .clear-mark .ensures .1,
+    )
 
 pub settle-spec : {M : Type 1} → statement M
 settle-spec =

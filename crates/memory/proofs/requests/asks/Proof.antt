@@ -7,7 +7,7 @@ use Rattle.memory.proofs.requests.asks.Tie as tie
 returns : tie.Need-returns
 returns c =
     let a = c .before .before .before .before .before .args in
-    let at = c .before .room-place in
+    let at = c .before .place in
     asks-read (a .memory .now) (a .k) (a .i) (at .result) (at .ensures .0) (entry (a .key .now) (a .originator .now)) (c .entry-is .result) (c .before .before .before .before .before .pre .1 .0) (c .entry-is .ensures)
 
 pub asks-spec : {M : Type 1} → statement M

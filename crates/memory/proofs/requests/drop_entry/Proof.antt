@@ -1,6 +1,6 @@
-use Rattle.memory.proofs.RequestSteps.{goes-dropped}
+use Rattle.memory.proofs.RequestSteps.{goes-dropped, goes-none}
 use Rattle.memory.specs.Search.{entry}
-use Rattle.memory.specs.Memory.{memoryOf}
+use Rattle.memory.specs.Memory.{memoryOf, requestsOf}
 use Rattle.protocol.specs.Numbers.{csa}
 use lib.IntN.{pos}
 use borrow.Author.Needs.{needs}
@@ -10,7 +10,10 @@ use Rattle.memory.proofs.requests.drop_entry.Tie as tie
 returns : tie.Need-returns
 returns c =
     let a = c .before .before .before .before .before .before .before .args in
-    goes-dropped (a .k) (entry (a .key .now) (a .originator .now)) (csa (pos 0)) (memoryOf (a .memory .now)) (memoryOf (c .before .before .sift .last .0)) (c .before .before .sift .ensures)
+    let e = entry (a .key .now) (a .originator .now) in
+    let m = memoryOf (a .memory .now) in
+    let q = c .before .before .sift in
+    (goes-dropped (a .k) e (csa (pos 0)) m (memoryOf (q .last .0)) (q .ensures .0), λ h. q .ensures .1 (goes-none e (csa (pos 0)) (requestsOf m (a .k)) h))
 
 pub drop-entry-spec : {M : Type 1} → statement M
 drop-entry-spec = tie.close (tie.spec (λ c κs. search needs) (λ c. search needs) returns)

@@ -6,7 +6,7 @@ use Rattle.memory.proofs.requests.key_at.Tie as tie
 returns : tie.Need-returns
 returns c =
     let a = c .before .before .before .before .before .args in
-    let at = c .before .before .before .room-place in
+    let at = c .before .before .before .place in
     key-read (a .memory .now) (a .k) (a .i) (at .result) (at .ensures .0) (c .before .before .octet .result) (c .before .part-of .result .now) (c .first .result .now) (c .before .before .octet .ensures) (c .before .part-of .ensures) (c .first .ensures)
 
 pub key-at-spec : {M : Type 1} → statement M

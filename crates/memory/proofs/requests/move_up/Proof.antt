@@ -1,4 +1,5 @@
-use Rattle.memory.proofs.RequestSteps.{move-more, rooms-are}
+use Rattle.memory.proofs.RequestMoves.{move-more}
+use Rattle.memory.proofs.RequestSteps.{rooms-are}
 use Rattle.memory.proofs.Rooms.{listed-none}
 use Rattle.memory.specs.Lists.{roomsIn, Listed, movedUp}
 use Rattle.memory.specs.Layout.{listPlace}

@@ -6,7 +6,7 @@ use Rattle.memory.proofs.requests.originator_at.Tie as tie
 returns : tie.Need-returns
 returns c =
     let a = c .before .before .before .args in
-    let at = c .before .room-place in
+    let at = c .before .place in
     originator-read (a .memory .now) (a .k) (a .i) (at .result) (at .ensures .0) (c .part-of .result .now) (c .part-of .ensures)
 
 pub originator-at-spec : {M : Type 1} → statement M

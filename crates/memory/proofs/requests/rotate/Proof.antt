@@ -1,4 +1,4 @@
-use Rattle.memory.proofs.RequestSteps.{Turning, turning-none, turning-more, turning-end}
+use Rattle.memory.proofs.RequestMoves.{Turning, turning-none, turning-more, turning-end}
 use lib.ListN.{length}
 use native.Mathlib.Omega.{arith}
 use Prim.Native.Nat.{_-_, _≤_}

@@ -1,4 +1,4 @@
-use Rattle.memory.proofs.RequestSteps.{Sifting, sifting-none, sifting-more, sift-end}
+use Rattle.memory.proofs.RequestMoves.{Sifting, sifting-none, sifting-more, sift-end, sift-nothing}
 use Rattle.memory.specs.Search.{entry}
 use Rattle.memory.specs.Lists.{goes}
 use lib.ListN.{length}
@@ -34,17 +34,28 @@ loop-again c =
 
 set-count-requires : tie.Need-set-count-requires Inv-loop μ-loop
 set-count-requires c κs =
-    let l = c .before .before .loop in
-    (c .before .before .before .before .before .before .before .before .pre .0, (omega (arith, c .before .before .before .count .ensures, l .inv .1 .rooms .under, l .inv .0 .0), l .inv .0 .1 ∙ c .before .before .before .before .before .before .before .before .pre .1))
+    let l = c .before .before .before .loop in
+    (c .before .before .before .before .before .before .before .before .before .pre .0, (omega (arith, c .before .before .before .before .count .ensures, c .before .if1 .taken), l .inv .0 .1 ∙ c .before .before .before .before .before .before .before .before .before .pre .1))
 
 same-length : tie.Need-same-length Inv-loop μ-loop
-same-length c = c .before .before .set-count .kept .0 ∙ c .before .before .before .before .before .loop .inv .0 .1
+same-length c = c .before .before .set-count .kept .0 ∙ c .before .before .before .before .before .before .loop .inv .0 .1
 
 returns : tie.Need-returns Inv-loop μ-loop
 returns c =
-    let a = c .before .before .before .before .before .before .before .before .before .before .before .args in
-    let l = c .before .before .before .before .before .loop in
-    sift-end (a .k) (goes (a .all) (entry (a .key .now) (a .originator .now)) (a .number)) (c .before .before .before .before .before .before .count .result) (l .i) (l .w) (a .memory .now) (l .memory) (c .before .before .set-count .last .0) (c .before .before .before .before .before .before .before .before .before .before .before .pre .0) (c .before .before .before .before .before .before .count .ensures .0) (omega (arith, l .inv .0 .0, c .before .before .before .before .loop-test .left)) (l .inv .1) (c .before .before .set-count .ensures)
+    let a = c .before .before .before .before .before .before .before .before .before .before .before .before .args in
+    let l = c .before .before .before .before .before .before .loop in
+    let n = c .before .before .before .before .before .before .before .count in
+    sift-end (a .k) (goes (a .all) (entry (a .key .now) (a .originator .now)) (a .number)) (n .result) (l .i) (l .w) (a .memory .now) (l .memory) (c .before .before .before .before .before .before .before .before .before .before .before .before .pre .0) (n .ensures .0) (n .ensures .1) (omega (arith, l .inv .0 .0, c .before .before .before .before .before .loop-test .left)) (l .inv .1) (c .before .before .set-count .last .0) (c .before .before .before .before .if1 .taken) (c .before .before .set-count .ensures)
+
+same-length-2 : tie.Need-same-length-2 Inv-loop μ-loop
+same-length-2 c = c .before .before .loop .inv .0 .1
+
+returns-2 : tie.Need-returns-2 Inv-loop μ-loop
+returns-2 c =
+    let a = c .before .before .before .before .before .before .before .before .args in
+    let l = c .before .before .loop in
+    let n = c .before .before .before .count in
+    sift-nothing (a .k) (goes (a .all) (entry (a .key .now) (a .originator .now)) (a .number)) (n .result) (l .i) (l .w) (a .memory .now) (l .memory) (c .before .before .before .before .before .before .before .before .pre .0) (n .ensures .0) (n .ensures .1) (omega (arith, l .inv .0 .0, c .before .loop-test .left)) (l .inv .1) (c .if1 .left)
 
 pub sift-spec : {M : Type 1} → statement M
 sift-spec =
@@ -60,4 +71,6 @@ sift-spec =
     loop-again
     set-count-requires
     same-length
-    returns)
+    returns
+    same-length-2
+    returns-2)

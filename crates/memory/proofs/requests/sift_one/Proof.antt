@@ -1,4 +1,4 @@
-use Rattle.memory.proofs.RequestSteps.{sift-gone, sift-stays}
+use Rattle.memory.proofs.RequestMoves.{sift-gone, sift-same, sift-moves}
 use Rattle.memory.specs.Search.{entry}
 use Rattle.memory.specs.Lists.{goes}
 use borrow.Author.Needs.{needs}
@@ -12,8 +12,13 @@ returns c =
 
 returns-2 : tie.Need-returns-2
 returns-2 c =
-    let a = c .before .before .before .before .before .before .before .before .before .before .args in
-    sift-stays (a .memory .now) (c .before .before .copy-request .last .0) (a .k) (goes (a .all) (entry (a .key .now) (a .originator .now)) (a .number)) (a .i) (a .w) (c .before .before .before .before .before .goes .result) (c .before .before .before .before .before .goes .ensures) (c .before .before .before .before .if1 .left) (c .before .before .copy-request .ensures)
+    let a = c .before .before .before .before .before .before .before .args in
+    sift-same (a .memory .now) (a .memory .now) (a .k) (goes (a .all) (entry (a .key .now) (a .originator .now)) (a .number)) (a .i) (a .w) (c .before .before .goes .result) (c .before .before .goes .ensures) (c .before .before .before .before .before .before .before .pre .0) (c .before .if1 .left) (c .if2 .taken)
+
+returns-3 : tie.Need-returns-3
+returns-3 c =
+    let a = c .before .before .before .before .before .before .before .before .before .before .before .args in
+    sift-moves (a .memory .now) (c .before .before .copy-request .last .0) (a .k) (goes (a .all) (entry (a .key .now) (a .originator .now)) (a .number)) (a .i) (a .w) (c .before .before .before .before .before .before .goes .result) (c .before .before .before .before .before .before .goes .ensures) (c .before .before .before .before .before .if1 .left) (c .before .before .before .before .if2 .left) (c .before .before .copy-request .ensures)
 
 pub sift-one-spec : {M : Type 1} → statement M
 sift-one-spec =
@@ -22,7 +27,10 @@ sift-one-spec =
     (λ c κs. search needs)
     (λ c. search needs)
     returns
+    (λ c. search needs)
+    (λ c. search needs)
+    returns-2
     (λ c κs. search needs)
     (λ c. search needs)
     (λ c. search needs)
-    returns-2)
+    returns-3)

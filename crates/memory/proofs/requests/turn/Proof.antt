@@ -1,4 +1,4 @@
-use Rattle.memory.proofs.RequestSteps.{turn-done}
+use Rattle.memory.proofs.RequestMoves.{turn-done}
 use Rattle.memory.specs.Lists.{requestOf}
 use Rattle.memory.specs.Layout.{listPlace}
 use Rattle.protocol.specs.Fields.{field2}

@@ -1,0 +1,25 @@
+use Rattle.memory.proofs.RoomReads.{lifted}
+use Rattle.laws.proofs.Lists.{take-short}
+use lib.ListN.{length, drop}
+use native.Mathlib.Omega.{arith}
+use mathlib.Core.Path.{ap}
+use borrow.Author.Needs.{needs}
+use Rattle.memory.proofs.room.lift.Statement.{statement}
+use Rattle.memory.proofs.room.lift.Tie as tie
+
+copy-requires : tie.Need-copy-requires
+copy-requires c κs =
+    let a = c .before .before .before .before .args in
+    omega (arith, ap length (c .before .part-of .ensures), take-short 28 (drop (c .before .before .place .result) (a .memory .now)) .0)
+
+returns : tie.Need-returns
+returns c =
+    let a = c .before .before .before .before .before .before .args in
+    let at = c .before .before .before .before .place in
+    let p = c .before .before .before .part-of in
+    lifted (a .memory .now) (a .k) (a .i) (at .result) (at .ensures .0) (p .result .now) (c .before .copy .last .1 .0) (c .before .before .before .before .before .before .pre .1 .0) (omega (arith, at .ensures .1, c .before .before .before .before .before .before .pre .1 .1)) (p .ensures) (c .before .copy .ensures .1)
+
+pub lift-spec : {M : Type 1} → statement M
+lift-spec =
+    tie.close
+    (tie.spec (λ c κs. search needs) (λ c κs. search needs) (λ c. search needs) copy-requires returns)

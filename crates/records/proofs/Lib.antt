@@ -1,0 +1,9 @@
+pub mod MemoryLaws
+pub mod WalkLaws
+pub mod StepLaws
+pub mod ListLaws
+pub mod HeldLaws
+pub mod AskedLaws
+pub mod SolicitedLaws
+pub mod StandingLaws
+pub mod UpdateLaws

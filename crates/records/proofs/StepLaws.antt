@@ -1,0 +1,70 @@
+-- Summaries and replies, record after record: what one leaves and then the rest is what all leave.
+-- Assumes nothing.
+use Prim.Native.Nat.{ℕ, _<_}
+use mathlib.Core.Path.{_≡_, refl, sym, ap, _∙_}
+use mathlib.Core.List.{List, [], _∷_}
+use Rattle.laws.specs.Tables.{change}
+use Rattle.protocol.specs.Messages.{CsaRecord}
+use Rattle.rules.specs.Server.{Row, Entry, holds}
+use Rattle.rules.specs.Requests.{entryOf, Wanted, takenIn, allTakenIn}
+use Rattle.rules.specs.Updates.{replied, allReplied}
+use Rattle.memory.specs.Memory.{rowsIn, memoryOf, withRows, withRequests}
+use Rattle.memory.specs.Search.{entry}
+use Rattle.memory.specs.Lists.{wantedNow, TakesIn}
+use Rattle.memory.specs.Entries.{rowsAs}
+use Rattle.records.specs.Walks.{wantedBy, TakesAll, TakesOne}
+use Rattle.records.proofs.MemoryLaws.{memory-rows, requests-same, requests-twice, rows-stay, requests-after, rows-are}
+
+-- the entry of a record by its parts
+pub entry-by : (v : CsaRecord) (key originator : List ℕ) → key ≡ v .key → originator ≡ v .originator → entry key originator ≡ entryOf v
+entry-by v key originator a b = λ i. entry (a i) (b i)
+
+-- ---- summaries
+module _ (k : ℕ) where
+  takes-none : (s : List ℕ) (n : ℕ) → TakesAll k [] n s s n
+  takes-none s n = record { list = sym (requests-same (memoryOf s) k); count = refl }
+
+  pub takes-end : (s : List ℕ) (n : ℕ) (rs : List CsaRecord) → rs ≡ [] → TakesAll k rs n s s n
+  takes-end s n rs e = rw e (takes-none s n)
+
+  module _ (v : CsaRecord) (n : ℕ) (s t : List ℕ) (m : ℕ) where
+    pub takes-one : (e : Entry) → e ≡ entryOf v → TakesIn k e (v .number) n s t m → TakesOne k v n s t m
+    takes-one e q h = let g : TakesIn k (entryOf v) (v .number) n s t m = rw q at h in record { list = g .list; count = g .count }
+
+    module _ (h : k < 8) (one : TakesOne k v n s t m) where
+      now-wanted : wantedNow k m t ≡ takenIn (rowsIn s) v (wantedNow k n s)
+      now-wanted =
+          let q = requests-after s t k (takenIn (rowsIn s) v (wantedNow k n s) .requests) (one .list) h in
+          λ i. record { requests = q i; missed = one .count i }
+
+      all-wanted : (rs : List CsaRecord) → wantedBy k rs m t ≡ wantedBy k (v ∷ rs) n s
+      all-wanted rs =
+          let r = rows-stay s t k (takenIn (rowsIn s) v (wantedNow k n s) .requests) (one .list) in
+          λ i. allTakenIn (r i) rs (now-wanted i)
+
+      takes-both : (rs : List CsaRecord) (u : List ℕ) (r : ℕ) → TakesAll k rs m t u r → TakesAll k (v ∷ rs) n s u r
+      takes-both rs u r rest = record {
+        list =
+            rest .list ∙ (λ i. withRequests k (all-wanted rs i .requests) (one .list i))
+            ∙ requests-twice (memoryOf s) k (wantedBy k (v ∷ rs) n s .requests) (takenIn (rowsIn s) v (wantedNow k n s) .requests);
+        count = rest .count ∙ ap (λ (w : Wanted). w .missed) (all-wanted rs);
+      }
+
+      pub takes-then : (all rs : List CsaRecord) → all ≡ v ∷ rs → (u : List ℕ) (r : ℕ) → TakesAll k rs m t u r → TakesAll k all n s u r
+      takes-then all rs e u r rest = rw e (takes-both rs u r rest)
+
+-- ---- replies
+module _ (k : ℕ) where
+  pub replies-end : (s : List ℕ) (rs : List CsaRecord) → rs ≡ [] → memoryOf s ≡ rowsAs (allReplied k rs) s
+  replies-end s rs e = rw e (ap (λ (rows : List Row). withRows rows (memoryOf s)) (memory-rows s))
+
+  module _ (v : CsaRecord) (s t : List ℕ) where
+    pub replies-one : (e : Entry) → e ≡ entryOf v → memoryOf t ≡ rowsAs (change (holds e) (replied k (v .number))) s
+        → memoryOf t ≡ rowsAs (change (holds (entryOf v)) (replied k (v .number))) s
+    replies-one e q h = h ∙ ap (λ (f : Entry). rowsAs (change (holds f) (replied k (v .number))) s) q
+
+    module _ (one : memoryOf t ≡ rowsAs (change (holds (entryOf v)) (replied k (v .number))) s) where
+      pub replies-then : (all rs : List CsaRecord) → all ≡ v ∷ rs → (u : List ℕ) → memoryOf u ≡ rowsAs (allReplied k rs) t → memoryOf u ≡ rowsAs (allReplied k all) s
+      replies-then all rs e u rest =
+          let r = rows-are s t (change (holds (entryOf v)) (replied k (v .number)) (rowsIn s)) one in
+          rest ∙ (λ i. withRows (allReplied k rs (r i)) (one i)) ∙ ap (λ (l : List CsaRecord). rowsAs (allReplied k l) s) (sym e)

@@ -1,0 +1,10 @@
+use Rattle.records.proofs.ListLaws.{copied-first}
+use borrow.Author.Needs.{needs}
+use Rattle.records.proofs.list.array16.Statement.{statement}
+use Rattle.records.proofs.list.array16.Tie as tie
+
+returns : tie.Need-returns
+returns c = copied-first (c .before .before .before .before .args .s .now) _ (c .before .copy .last .1 .0) (c .before .copy .ensures .1)
+
+pub array16-spec : {M : Type 1} → statement M
+array16-spec = tie.close (tie.spec (λ c. search needs) (λ c κs. search needs) returns)
