@@ -1,0 +1,9 @@
+pub mod PartLaws
+pub mod MoveLaws
+pub mod ReceiverLaws
+pub mod AlignmentLaws
+pub mod CaLaws
+pub mod UpdateLaws
+pub mod DueLaws
+pub mod SendLaws
+pub mod PollLaws

@@ -1,0 +1,142 @@
+-- A poll: the Hello check, the kept CA dropped, then the first that is due. Where the check empties the slot's marks, what is due does not look at them.
+-- Assumes nothing.
+use Prim.Native.Nat.{ℕ, _<_}
+use mathlib.Core.Path.{_≡_, refl, sym, ap, subst, _∙_}
+use mathlib.Core.Bool.{Bool, true, false, _&&_}
+use mathlib.Core.Logic.{_⊎_, inl, inr}
+use mathlib.Core.List.{List, []}
+use Rattle.laws.specs.Choice.{pick}
+use Rattle.protocol.specs.declared.HelloState.the-variants.{Waiting}
+use Rattle.protocol.specs.declared.Alignment.{Alignment}
+use Rattle.protocol.specs.declared.Alignment.the-variants.{Down, Negotiate, Summarize, Update, Aligned}
+use Rattle.protocol.specs.declared.Link.{Link}
+use Rattle.protocol.specs.Hello.{stale}
+use Rattle.rules.specs.Server as rules
+use Rattle.rules.specs.Server.{Row}
+use Rattle.rules.specs.Links.{hearsPeer, isPast, enters, toOther, checkMove}
+use Rattle.rules.specs.Rows.{clearedIf}
+use Rattle.rules.specs.Slots.{passed, withLink, withKept, emptied}
+use Rattle.rules.specs.Sent.{Sent, octetsOf}
+use Rattle.rules.specs.Poll as poll
+use Rattle.rules.specs.Poll.{caInterval, dueIn, slotBy, sentBy, keptDropped, checked, pollSlot, pollSent}
+use Rattle.memory.specs.Memory.{rowsIn, memoryOf}
+use Rattle.memory.specs.Memory as memories
+use Rattle.slots.specs.declared.state.Slot.{Slot}
+use Rattle.actions.specs.declared.parts.Acted.{Acted}
+use Rattle.actions.specs.declared.poll.Plan.{Plan}
+use Rattle.actions.specs.Parts.{slotWith, Leaves, Moves, Wrote, Acts}
+use Rattle.actions.specs.Steps.{dueOf, Plans, Polls}
+use Rattle.actions.proofs.PartLaws.{left-rows, left-slot, leaves-as, leaves-then, leaves-same, leaves-kept}
+
+-- ---- the kept CA
+module _ (k : ℕ) (x : Slot) (m : List ℕ) (past old : Bool) where
+  abbrev dropped : rules.Slot
+  dropped = pick (past && old) (withKept [] (slotWith x k m)) (slotWith x k m)
+
+  pub drop-early : past ≡ false → Leaves k dropped (rowsIn m) m m x
+  drop-early e = leaves-same k dropped m x (rw e)
+
+  pub drop-young : past ≡ true → old ≡ false → Leaves k dropped (rowsIn m) m m x
+  drop-young e f = leaves-same k dropped m x (rw (e, f))
+
+  pub drop-done : (m′ : List ℕ) → past ≡ true → old ≡ true → memoryOf m′ ≡ memories.withKept k [] (memoryOf m) → Leaves k dropped (rowsIn m) m m′ x
+  drop-done m′ e f h = leaves-kept k dropped m m′ x [] h (rw (e, f))
+
+-- ---- the link of the slot after each part
+kept-link : (y : rules.Slot) (b : Bool) → pick b (withKept [] y) y .link ≡ y .link
+kept-link y true = refl
+kept-link y false = refl
+
+moved-link : (l : Link) (x : rules.Slot) (b : Bool) → pick b (emptied (withLink l x)) (withLink l x) .link ≡ l
+moved-link l x true = refl
+moved-link l x false = refl
+
+by-link : (d : poll.Due) (s : rules.Settings) (now : ℕ) (rows : List Row) (k : ℕ) (y : rules.Slot) → slotBy d s now rows k y .link ≡ y .link
+by-link poll.none s now rows k y = refl
+by-link poll.aHello s now rows k y = refl
+by-link poll.firstCa s now rows k y = refl
+by-link poll.keptCa s now rows k y = refl
+by-link poll.aCsus s now rows k y = refl
+by-link poll.anUpdate s now rows k y = refl
+
+-- ---- the check enters nothing, or Down
+stays : (a : Alignment) → enters a a ≡ false
+stays Down = refl
+stays Negotiate = refl
+stays (Summarize r) = refl
+stays Update = refl
+stays Aligned = refl
+
+tells : (l : Link) (b : Bool) → (enters (l .alignment) (pick b (toOther Waiting l) l .alignment) ≡ false) ⊎ (pick b (toOther Waiting l) l .alignment ≡ Down)
+tells l true = inr refl
+tells l false = inl (stays (l .alignment))
+
+-- ---- what is due, over other rows
+module _ (s : rules.Settings) (now k : ℕ) (y : rules.Slot) (rows rows′ : List Row) where
+  -- the same is due, and does the same
+  abbrev SameBy : poll.Due → poll.Due → Type 0
+  SameBy d d′ = (slotBy d′ s now rows′ k y ≡ slotBy d s now rows k y) × (sentBy d′ s rows′ k y ≡ sentBy d s rows k y)
+
+  abbrev Same : Type 0
+  Same = SameBy (poll.dueOf s now rows k y) (poll.dueOf s now rows′ k y)
+
+  same-rows : rows′ ≡ rows → Same
+  same-rows e = (λ i. slotBy (poll.dueOf s now (e i) k y) s now (e i) k y, λ i. sentBy (poll.dueOf s now (e i) k y) s (e i) k y)
+
+  down-by : (b : Bool) → SameBy (pick b poll.aHello (dueIn now rows k y Down)) (pick b poll.aHello (dueIn now rows′ k y Down))
+  down-by true = (refl, refl)
+  down-by false = (refl, refl)
+
+  same-down : y .link .alignment ≡ Down → Same
+  same-down e =
+      let b : Bool = passed (s .interval) (y .timers .hello) now in
+      subst (λ (a : Alignment). SameBy (pick b poll.aHello (dueIn now rows k y a)) (pick b poll.aHello (dueIn now rows′ k y a))) (sym e) (down-by b)
+
+-- ---- after the check
+module _ (s : rules.Settings) (now k : ℕ) (rows : List Row) (x : rules.Slot) where
+  abbrev entered : Bool
+  entered = enters (x .link .alignment) (checkMove now (x .link) .alignment)
+
+  abbrev left : rules.Slot
+  left = keptDropped now (checked now x)
+
+  left-link : left .link ≡ checkMove now (x .link)
+  left-link =
+      let y : rules.Slot = checked now x in
+      kept-link y (isPast (y .link .alignment) && passed caInterval (y .timers .ca) now) ∙ moved-link (checkMove now (x .link)) x entered
+
+  poll-link : pollSlot s now rows k x .link ≡ checkMove now (x .link)
+  poll-link = by-link (poll.dueOf s now rows k left) s now rows k left ∙ left-link
+
+  same-by : (entered ≡ false) ⊎ (checkMove now (x .link) .alignment ≡ Down) → Same s now k left rows (clearedIf entered k rows)
+  same-by (inl e) = same-rows s now k left rows (clearedIf entered k rows) (ap (λ (b : Bool). clearedIf b k rows) e)
+  same-by (inr e) = same-down s now k left rows (clearedIf entered k rows) (ap (λ (l : Link). l .alignment) left-link ∙ e)
+
+  same : Same s now k left rows (clearedIf entered k rows)
+  same = same-by (tells (x .link) (hearsPeer (x .link .hello) && stale (x .link .interval) (x .link .factor) (x .link .heard) now))
+
+-- ---- the event
+module _ (s : rules.Settings) (now k : ℕ) (x y : Slot) (m₀ m₁ m₂ m₃ out out′ : List ℕ) (d : Plan) (r : Acted) (h : k < 8) where
+  abbrev rows : List Row
+  rows = rowsIn m₀
+
+  abbrev slot : rules.Slot
+  slot = slotWith x k m₀
+
+  pub polled : Moves k (checkMove now (x .link)) x m₀ m₁ y → Leaves k (keptDropped now (slotWith y k m₁)) (rowsIn m₁) m₁ m₂ y
+      → Plans (poll.dueOf s now (rowsIn m₂) k (slotWith y k m₂)) k y m₂ d
+      → Acts k (slotBy (dueOf (d .due)) s now (rowsIn m₂) k (slotWith y k m₂)) (rowsIn m₂) (octetsOf (sentBy (dueOf (d .due)) s (rowsIn m₂) k (slotWith y k m₂))) m₂ m₃ out out′ r
+      → Polls k now s x m₀ m₃ out out′ r
+  polled a b c e =
+      let y₂ : slotWith y k m₂ ≡ left s now k rows slot = left-slot b h ∙ ap (keptDropped now) (left-slot a h) in
+      let r₂ : rowsIn m₂ ≡ clearedIf (entered s now k rows slot) k rows = left-rows b ∙ left-rows a in
+      let due : dueOf (d .due) ≡ poll.dueOf s now (clearedIf (entered s now k rows slot) k rows) k (left s now k rows slot) =
+      c .which ∙ (λ i. poll.dueOf s now (r₂ i) k (y₂ i)) in
+      let g = same s now k rows slot in
+      let to : slotBy (dueOf (d .due)) s now (rowsIn m₂) k (slotWith y k m₂) ≡ pollSlot s now rows k slot = (λ i. slotBy (due i) s now (r₂ i) k (y₂ i)) ∙ g .0 in
+      let what : sentBy (dueOf (d .due)) s (rowsIn m₂) k (slotWith y k m₂) ≡ pollSent s now rows k slot = (λ i. sentBy (due i) s (r₂ i) k (y₂ i)) ∙ g .1 in
+      let cleared = ap (λ (l : Link). clearedIf (enters (x .link .alignment) (l .alignment)) k rows) (sym (poll-link s now k rows slot)) in
+      record {
+        left = leaves-as (leaves-then (leaves-then a b) (e .left)) _ _ to (r₂ ∙ cleared);
+        wrote = subst (λ (z : Sent). Wrote (octetsOf z) out out′ (r .written)) what (e .wrote);
+      }

@@ -1,0 +1,71 @@
+use Rattle.actions.proofs.DueLaws.{planned, planned-if, in-state, due-first, due-other}
+use Rattle.actions.specs.Parts.{slotWith}
+use Rattle.memory.specs.Memory.{rowsIn}
+use Rattle.rules.specs.Poll.{none, aCsus, csusDue, updateDue}
+use Rattle.rules.specs.Slots.{passed}
+use Rattle.actions.specs.declared.poll.Due.the-variants.{Nothing, FirstCa, Csus}
+use Rattle.protocol.specs.declared.Alignment.the-variants.{Down, Negotiate, Summarize, Update, Aligned}
+use mathlib.Core.Path.{refl, sym, _∙_}
+use borrow.Author.Needs.{needs}
+use Rattle.actions.proofs.poll.due_in.Statement.{statement}
+use Rattle.actions.proofs.poll.due_in.Tie as tie
+
+returns : tie.Need-returns
+returns c =
+    let a = c .before .before .before .before .before .before .before .args in
+    let y = slotWith (a .x) (a .k) (a .memory .now) in
+    in-state (a .time) (a .k) (a .x) (a .memory .now) y (c .plan-for2 .result) (a .x .link .alignment) Update (c .before .before .before .enum-told3 .given .1)
+    (due-first (a .k) (a .x) (a .memory .now) (c .plan-for2 .result) (csusDue (a .time) y) (updateDue (a .time) (rowsIn (a .memory .now)) (a .k) y) Csus tt (sym (c .before .before .csus-due .ensures) ∙ c .before .if1 .taken) (c .plan-for2 .ensures))
+
+returns-2 : tie.Need-returns-2
+returns-2 c =
+    let a = c .before .before .before .before .before .args in
+    in-state (a .time) (a .k) (a .x) (a .memory .now) (slotWith (a .x) (a .k) (a .memory .now)) (c .plan-for .result) (a .x .link .alignment) Down (c .before .enum-told .given .1)
+    (planned (a .k) (a .x) (a .memory .now) (c .plan-for .result) Nothing none tt refl (c .plan-for .ensures))
+
+returns-3 : tie.Need-returns-3
+returns-3 c =
+    let a = c .before .before .before .before .before .args in
+    in-state (a .time) (a .k) (a .x) (a .memory .now) (slotWith (a .x) (a .k) (a .memory .now)) (c .ca-due .result) (a .x .link .alignment) Negotiate (c .before .enum-told2 .given .1)
+    (planned-if (a .k) (a .x) (a .memory .now) (c .ca-due .result) FirstCa tt (passed 5 (a .x .timers .ca) (a .time)) (c .ca-due .ensures))
+
+returns-4 : tie.Need-returns-4
+returns-4 c =
+    let a = c .before .before .before .before .before .before .args in
+    in-state (a .time) (a .k) (a .x) (a .memory .now) (slotWith (a .x) (a .k) (a .memory .now)) (c .summarize-due .result) (a .x .link .alignment) (Summarize (c .before .before .a .given .0 .0)) (c .before .before .a .given .1)
+    (c .summarize-due .ensures (a .k) (a .memory .now))
+
+returns-5 : tie.Need-returns-5
+returns-5 c =
+    let a = c .before .before .before .before .before .before .before .args in
+    let y = slotWith (a .x) (a .k) (a .memory .now) in
+    in-state (a .time) (a .k) (a .x) (a .memory .now) y (c .update-due .result) (a .x .link .alignment) Update (c .before .before .before .enum-told3 .given .1)
+    (due-other (a .k) (a .x) (a .memory .now) (c .update-due .result) (csusDue (a .time) y) (updateDue (a .time) (rowsIn (a .memory .now)) (a .k) y) aCsus (sym (c .before .before .csus-due .ensures) ∙ c .before .if1 .left) (c .update-due .ensures))
+
+returns-6 : tie.Need-returns-6
+returns-6 c =
+    let a = c .before .before .before .before .before .args in
+    in-state (a .time) (a .k) (a .x) (a .memory .now) (slotWith (a .x) (a .k) (a .memory .now)) (c .update-due2 .result) (a .x .link .alignment) Aligned (c .before .enum-told4 .given .1) (c .update-due2 .ensures)
+
+pub due-in-spec : {M : Type 1} → statement M
+due-in-spec =
+    tie.close
+    (tie.spec
+    (λ c. search needs)
+    (λ c κs. search needs)
+    (λ c. search needs)
+    (λ c κs. search needs)
+    (λ c. search needs)
+    (λ c κs. search needs)
+    (λ c. search needs)
+    (λ c κs. search needs)
+    (λ c κs. search needs)
+    returns
+    (λ c κs. search needs)
+    (λ c. search needs)
+    (λ c κs. search needs)
+    returns-2
+    returns-3
+    returns-4
+    returns-5
+    returns-6)

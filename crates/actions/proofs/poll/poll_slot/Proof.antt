@@ -1,0 +1,30 @@
+use Rattle.actions.proofs.PollLaws.{polled}
+use Rattle.slots.specs.State.{settingsOf}
+use borrow.Author.Needs.{needs}
+use Rattle.actions.proofs.poll.poll_slot.Statement.{statement}
+use Rattle.actions.proofs.poll.poll_slot.Tie as tie
+
+send-requires : tie.Need-send-requires
+send-requires c κs = (search needs, c .before .before .due-of .ensures .rows)
+
+returns : tie.Need-returns
+returns c =
+    let start = c .before .before .before .before .before .before .before .before .before .before .before .before .before .before .before .before .before .before .before in
+    let a = start .args in
+    let y = c .before .before .before .before .before .before .before .before .before .before .before .before .before .before .before .check in
+    let o = c .before .before .before .before .before .before .before .before .before .before .before .drop-old in
+    let d = c .before .before .before .before .before .before .before .due-of in
+    let t = c .before .before .before .before .send in
+    polled (settingsOf (a .s)) (a .time) (a .k) (a .x) (y .result) (a .memory .now) (y .last .0) (o .last .0) (t .last .1 .0) (a .out .now) (t .last .1 .1 .1 .1 .1 .1 .0) (d .result) (t .result) (start .pre .1 .0) (y .ensures) (o .ensures) (d .ensures) (t .ensures)
+
+pub poll-slot-spec : {M : Type 1} → statement M
+poll-slot-spec =
+    tie.close
+    (tie.spec
+    (λ c κs. search needs)
+    (λ c κs. search needs)
+    (λ c κs. search needs)
+    send-requires
+    (λ c. search needs)
+    (λ c. search needs)
+    returns)

@@ -1,0 +1,15 @@
+use Rattle.actions.proofs.SendLaws.{sends}
+use Rattle.slots.specs.State.{settingsOf}
+use borrow.Author.Needs.{needs}
+use Rattle.actions.proofs.poll.send.Statement.{statement}
+use Rattle.actions.proofs.poll.send.Tie as tie
+
+returns : tie.Need-returns
+returns c =
+    let a = c .before .before .before .before .before .before .before .before .before .before .args in
+    let w = c .before .before .before .before .before .write-due in
+    sends (a .d .due) (a .k) (a .time) (settingsOf (a .s)) (a .d .picks) (a .x) (c .slot-due .result) (a .memory .now) (w .last .1 .0) (a .out .now) (w .last .1 .1 .1 .1 .1 .0) (w .result) (c .before .before .before .before .before .before .before .before .before .before .pre .1) (w .ensures) (c .slot-due .ensures)
+
+pub send-spec : {M : Type 1} → statement M
+send-spec =
+    tie.close (tie.spec (λ c κs. search needs) (λ c κs. search needs) (λ c. search needs) (λ c. search needs) returns)

@@ -1,0 +1,12 @@
+pub mod ServerLaws
+pub mod DoesLaws
+pub mod CodeLaws
+pub mod LiveLaws
+pub mod LinkLaws
+pub mod PeerLaws
+pub mod OwnLaws
+pub mod PollLaws
+pub mod QueryLaws
+pub mod ReadLaws
+pub mod ActLaws
+pub mod PacketLaws

@@ -1,0 +1,170 @@
+-- The slots of the server with their parts of the memory, and what an event in a slot leaves of the server.
+-- Assumes nothing.
+use Prim.Native.Nat.{ℕ, _<_}
+use mathlib.Core.Path.{_≡_, sym, ap, _∙_, subst}
+use mathlib.Core.List.{List, []}
+use native.Mathlib.Omega.{arith}
+use lib.ListN.{length, getD}
+use lib.ListN as lists
+use lib.Seq.{getD-set-same, getD-set-other, set-set}
+use Rattle.laws.proofs.TableLaws.{table-length, table-get, table-same, table-set}
+use Rattle.rules.specs.Server as rules
+use Rattle.rules.specs.Server.{freshSlot, Row, slotAt}
+use Rattle.rules.specs.Links.{enters}
+use Rattle.rules.specs.Rows.{clearedIf, swept}
+use Rattle.rules.specs.Events.{Event, Place, inSlot, placeOf, liveIn, slotAfter, slotsAfter, rowsChanged, cleared, timeAfter, acted}
+use Rattle.memory.specs.Memory.{rowsIn, Memory, memoryOf, withRows, requestsOf, keptOf}
+use Rattle.records.proofs.MemoryLaws.{rows-are}
+use Rattle.slots.specs.declared.state.Slot.{Slot}
+use Rattle.slots.specs.declared.state.Server.{Server}
+use Rattle.slots.specs.State.{settingsOf, slotOf}
+use Rattle.actions.specs.declared.parts.Acted.{Acted}
+use Rattle.actions.specs.Parts.{slotWith, Leaves}
+use Rattle.actions.proofs.PartLaws.{left-rows, left-slot}
+use Rattle.server.specs.declared.answers.Answer.{Answer}
+use Rattle.server.specs.State.{zeroSlot, slotsOf, serverOf, withSlot, ended, Ends}
+use Rattle.server.specs.Events.{slotNow}
+
+-- ---- the slots
+pub slots-eight : (slots : List Slot) (m : List ℕ) → length (slotsOf slots m) ≡ 8
+unfolding slotsOf
+slots-eight slots m = table-length (λ k. slotWith (getD slots k zeroSlot) k m) 8 0
+
+pub slot-get : (slots : List Slot) (m : List ℕ) (k : ℕ) → k < 8 → getD (slotsOf slots m) k freshSlot ≡ slotWith (getD slots k zeroSlot) k m
+unfolding slotsOf
+slot-get slots m k h = table-get (λ j. slotWith (getD slots j zeroSlot) j m) 8 k freshSlot h
+
+pub slot-of : (s : Server) (m : List ℕ) (k : ℕ) → k < 8 → slotAt (serverOf s m) k ≡ slotNow s k m
+slot-of s m k h = slot-get (s .slots) m k h
+
+-- slot k put, with its part of the memory
+pub slots-put : (slots : List Slot) (m : List ℕ) (k : ℕ) (x : Slot) → k < 8 → length slots ≡ 8
+    → slotsOf (lists.set slots k x) m ≡ lists.set (slotsOf slots m) k (slotWith x k m)
+unfolding slotsOf
+slots-put slots m k x h n =
+    table-set (λ j. slotWith (getD slots j zeroSlot) j m) (λ j. slotWith (getD (lists.set slots k x) j zeroSlot) j m) 8 k h
+    (λ j a d. ap (λ (y : Slot). slotWith y j m) (getD-set-other slots k j x zeroSlot d))
+    ∙ ap (λ (y : Slot). lists.set (slotsOf slots m) k (slotWith y k m)) (getD-set-same slots k x zeroSlot (omega arith))
+
+-- the memory is another, with the same parts of each slot
+pub slots-same : (slots : List Slot) (a b : List ℕ) → memoryOf b .requests ≡ memoryOf a .requests → memoryOf b .kept ≡ memoryOf a .kept
+    → slotsOf slots b ≡ slotsOf slots a
+unfolding slotsOf
+slots-same slots a b e f =
+    table-same (λ j. slotWith (getD slots j zeroSlot) j b) (λ j. slotWith (getD slots j zeroSlot) j a) 8
+    (λ j h z. slotOf (getD slots j zeroSlot) (getD (e z) j []) (getD (f z) j []))
+
+-- the end of an event: the rows are swept
+pub ends : (s r : Server) (before after : List ℕ) (k now : ℕ) (x : Slot) → k < 8 → length (s .slots) ≡ 8
+    → memoryOf after ≡ withRows (swept (rowsIn before)) (memoryOf before) → r ≡ withSlot s k x now
+    → serverOf r after ≡ ended k now (slotWith x k before) (serverOf s before)
+ends s r before after k now x h n e a =
+    let qs : memoryOf after .requests ≡ memoryOf before .requests = ap (λ (m : Memory). m .requests) e in
+    let ks : memoryOf after .kept ≡ memoryOf before .kept = ap (λ (m : Memory). m .kept) e in
+    let put : slotsOf (lists.set (s .slots) k x) after ≡ lists.set (slotsOf (s .slots) before) k (slotWith x k before) =
+    slots-put (s .slots) after k x h n
+    ∙ (λ z. lists.set (slots-same (s .slots) before after qs ks z) k (slotOf x (getD (qs z) k []) (getD (ks z) k []))) in
+    ap (λ (t : Server). serverOf t after) a
+    ∙ (λ z. record {
+      settings = settingsOf (s .settings);
+      time = now;
+      slots = put z;
+      rows = rows-are before after (swept (rowsIn before)) e z;
+    })
+
+-- but for slot k
+module _ {k : ℕ} {slot : rules.Slot} {rows : List Row} {before after : List ℕ} {x : Slot} (l : Leaves k slot rows before after x) (h : k < 8) where
+  other-slot : (y : Slot) (j : ℕ) → (j ≡ k → ⊥) → slotWith y j after ≡ slotWith y j before
+  other-slot y j d =
+      let e : requestsOf (memoryOf after) j ≡ requestsOf (memoryOf before) j =
+      ap (λ (m : Memory). requestsOf m j) (l .memory) ∙ getD-set-other (memoryOf before .requests) k j (slot .requests) [] d in
+      let f : keptOf (memoryOf after) j ≡ keptOf (memoryOf before) j =
+      ap (λ (m : Memory). keptOf m j) (l .memory) ∙ getD-set-other (memoryOf before .kept) k j (slot .kept) [] d in
+      λ z. slotOf y (e z) (f z)
+
+  pub slots-left : (slots : List Slot) → lists.set (slotsOf slots after) k (slotWith x k after) ≡ lists.set (slotsOf slots before) k slot
+  unfolding slotsOf
+  slots-left slots =
+      let y : rules.Slot = slotWith (getD slots k zeroSlot) k after in
+      ap (λ (t : List rules.Slot). lists.set t k (slotWith x k after))
+      (table-set (λ j. slotWith (getD slots j zeroSlot) j before) (λ j. slotWith (getD slots j zeroSlot) j after) 8 k h
+      (λ j a d. other-slot (getD slots j zeroSlot) j d))
+      ∙ set-set (slotsOf slots before) k y (slotWith x k after)
+      ∙ ap (lists.set (slotsOf slots before) k) (left-slot l h)
+
+  pub slots-leave : (slots : List Slot) → length slots ≡ 8 → slotsOf (lists.set slots k x) after ≡ lists.set (slotsOf slots before) k slot
+  slots-leave slots n = slots-put slots after k x h n ∙ slots-left slots
+
+  -- the end of an event in slot k
+  pub closes : (s r : Server) (now : ℕ) (last : List ℕ) → serverOf r last ≡ ended k now (slotWith x k after) (serverOf s after)
+      → serverOf r last ≡ record { settings = settingsOf (s .settings); time = now; slots = lists.set (slotsOf (s .slots) before) k slot; rows = swept rows }
+  closes s r now last e =
+      e ∙ (λ z. record { settings = settingsOf (s .settings); time = now; slots = slots-left (s .slots) z; rows = swept (left-rows l z) })
+
+-- ---- an event in slot k acts: the slot that it leaves, and the rows
+-- y is the slot after it, rows those that it changed
+abbrev pub actedIn : ℕ → ℕ → rules.Slot → rules.Slot → List Row → rules.Server → rules.Server
+actedIn k now x y rows s = record {
+  settings = s .settings;
+  time = now;
+  slots = lists.set (s .slots) k y;
+  rows = swept (clearedIf (enters (x .link .alignment) (y .link .alignment)) k rows);
+}
+
+place-acted : (s : rules.Server) (e : Event) (k : ℕ) → k < length (s .slots) → placeOf e ≡ inSlot k
+    → acted s e ≡ actedIn k (timeAfter e (s .time)) (slotAt s k) (slotAfter e (s .settings) (liveIn (s .slots)) (s .rows) (slotAt s k))
+    (rowsChanged e (s .settings) (liveIn (s .slots)) (s .rows)) s
+unfolding acted
+place-acted s e k h p =
+    let y : rules.Slot = slotAfter e (s .settings) (liveIn (s .slots)) (s .rows) (slotAt s k) in
+    let rows : List Row = rowsChanged e (s .settings) (liveIn (s .slots)) (s .rows) in
+    let at : List rules.Slot → rules.Slot → rules.Server = λ slots z. record {
+      settings = s .settings;
+      time = timeAfter e (s .time);
+      slots = slots;
+      rows = swept (clearedIf (enters (slotAt s k .link .alignment) (z .link .alignment)) k rows);
+    } in
+    ap (λ (q : Place). record {
+      settings = s .settings;
+      time = timeAfter e (s .time);
+      slots = slotsAfter q e s;
+      rows = swept (cleared q (s .slots) (slotsAfter q e s) rows);
+    }) p
+    ∙ ap (at (lists.set (s .slots) k y)) (getD-set-same (s .slots) k y freshSlot h)
+
+pub acted-in : (s : Server) (m : List ℕ) (e : Event) (k : ℕ) → k < 8 → placeOf e ≡ inSlot k
+    → acted (serverOf s m) e ≡ actedIn k (timeAfter e (s .time)) (slotNow s k m)
+    (slotAfter e (settingsOf (s .settings)) (liveIn (slotsOf (s .slots) m)) (rowsIn m) (slotNow s k m))
+    (rowsChanged e (settingsOf (s .settings)) (liveIn (slotsOf (s .slots) m)) (rowsIn m)) (serverOf s m)
+acted-in s m e k h p =
+    let n : length (slotsOf (s .slots) m) ≡ 8 = slots-eight (s .slots) m in
+    place-acted (serverOf s m) e k (omega arith) p
+    ∙ ap (λ (x : rules.Slot). actedIn k (timeAfter e (s .time)) x
+    (slotAfter e (settingsOf (s .settings)) (liveIn (slotsOf (s .slots) m)) (rowsIn m) x)
+    (rowsChanged e (settingsOf (s .settings)) (liveIn (slotsOf (s .slots) m)) (rowsIn m)) (serverOf s m)) (slot-of s m k h)
+
+-- what it leaves of slot k, which was x, and of the rows, before they are swept
+abbrev pub LeavesBy : Event → Server → ℕ → Slot → List ℕ → List ℕ → Slot → Type 0
+LeavesBy e s k x before after r =
+    let y = slotAfter e (settingsOf (s .settings)) (liveIn (slotsOf (s .slots) before)) (rowsIn before) (slotWith x k before) in
+    Leaves k y (clearedIf (enters (x .link .alignment) (y .link .alignment)) k
+    (rowsChanged e (settingsOf (s .settings)) (liveIn (slotsOf (s .slots) before)) (rowsIn before))) before after r
+
+-- so the server at its end is that of the event
+pub closes-acted : (s r : Server) (before after last : List ℕ) (e : Event) (k now : ℕ) (y : Slot) → k < 8 → placeOf e ≡ inSlot k → now ≡ timeAfter e (s .time)
+    → LeavesBy e s k (getD (s .slots) k zeroSlot) before after y → serverOf r last ≡ ended k now (slotWith y k after) (serverOf s after)
+    → serverOf r last ≡ acted (serverOf s before) e
+closes-acted s r before after last e k now y h p t l c =
+    let new : rules.Slot = slotAfter e (settingsOf (s .settings)) (liveIn (slotsOf (s .slots) before)) (rowsIn before) (slotNow s k before) in
+    let rows : List Row = rowsChanged e (settingsOf (s .settings)) (liveIn (slotsOf (s .slots) before)) (rowsIn before) in
+    closes l h s r now last c
+    ∙ ap (λ (u : ℕ). actedIn k u (slotNow s k before) new rows (serverOf s before)) t
+    ∙ sym (acted-in s before e k h p)
+
+module _ (s : Server) (before after : List ℕ) (e : Event) (k : ℕ) (x : Slot) (q : x ≡ getD (s .slots) k zeroSlot) where
+  pub leaves-at : (y : Slot) → LeavesBy e s k x before after y → LeavesBy e s k (getD (s .slots) k zeroSlot) before after y
+  leaves-at y l = subst (λ (u : Slot). LeavesBy e s k u before after y) q l
+
+  pub ends-acted : (last : List ℕ) (now : ℕ) (a : Acted) (r : Answer) → k < 8 → placeOf e ≡ inSlot k → now ≡ timeAfter e (s .time)
+      → LeavesBy e s k x before after (a .slot) → Ends s k now a after last r → serverOf (r .server) last ≡ acted (serverOf s before) e
+  ends-acted last now a r h p t l c = closes-acted s (r .server) before after last e k now (a .slot) h p t (leaves-at (a .slot) l) (c .server)

@@ -1,0 +1,61 @@
+use mathlib.Core.Path.{_≡_, sym, _∙_}
+use mathlib.Core.Bool.{true}
+use borrow.Author.Tests.{not-true, not-false}
+use borrow.Author.Needs.{needs}
+use Rattle.rules.specs.Refusals.{keyGood, payloadGood}
+use Rattle.server.specs.State.{serverOf}
+use Rattle.server.proofs.OwnLaws.{set-key, set-payload, set-spent, set-held, set-new, set-full}
+use Rattle.server.proofs.own.set_code.Statement.{statement}
+use Rattle.server.proofs.own.set_code.Tie as tie
+
+key-ok : (c : tie.Else1) → keyGood (c .before .before .before .before .before .args .key .now) ≡ true
+key-ok c = sym (c .before .key-good .ensures) ∙ not-false (c .before .key-good .result) (c .if1 .left)
+
+payload-ok : (c : tie.Else2) → payloadGood (c .before .before .before .before .before .before .before .args .payload .now) ≡ true
+payload-ok c = sym (c .before .payload-good .ensures) ∙ not-false (c .before .payload-good .result) (c .if2 .left)
+
+returns : tie.Need-returns
+returns c =
+    let a = c .before .before .before .before .before .args in
+    set-key (serverOf (a .s) (a .memory .now)) (a .key .now) (a .payload .now) (sym (c .before .key-good .ensures) ∙ not-true (c .before .key-good .result) (c .if1 .taken))
+
+returns-2 : tie.Need-returns-2
+returns-2 c =
+    let a = c .before .before .before .before .before .before .before .args in
+    set-payload (serverOf (a .s) (a .memory .now)) (a .key .now) (key-ok (c .before .before)) (a .payload .now) (sym (c .before .payload-good .ensures) ∙ not-true (c .before .payload-good .result) (c .if2 .taken))
+
+returns-3 : tie.Need-returns-3
+returns-3 c =
+    let a = c .before .before .before .before .before .before .before .before .before .before .before .before .args in
+    set-spent (serverOf (a .s) (a .memory .now)) (a .key .now) (key-ok (c .before .before .before .before .before .before .before)) (c .before .own-of .result) (c .before .own-of .ensures) (a .payload .now) (payload-ok (c .before .before .before .before .before)) (c .if3 .taken)
+
+returns-4 : tie.Need-returns-4
+returns-4 c =
+    let a = c .before .before .before .before .before .before .before .before .before .before .before .before .before .args in
+    set-held (serverOf (a .s) (a .memory .now)) (a .key .now) (key-ok (c .before .before .before .before .before .before .before .before)) (c .before .before .own-of .result) (c .before .before .own-of .ensures) (a .payload .now) (payload-ok (c .before .before .before .before .before .before)) (c .before .if3 .left) (c .if4 .taken)
+
+returns-5 : tie.Need-returns-5
+returns-5 c =
+    let a = c .before .before .before .before .before .before .before .before .before .before .before .before .before .before .before .args in
+    set-new (serverOf (a .s) (a .memory .now)) (a .key .now) (key-ok (c .before .before .before .before .before .before .before .before .before .before)) (c .before .before .before .before .own-of .result) (c .before .before .before .before .own-of .ensures) (a .payload .now) (payload-ok (c .before .before .before .before .before .before .before .before)) (c .before .before .before .if3 .left) (c .before .before .if4 .left) (sym (c .before .has-free .ensures) ∙ c .if5 .taken)
+
+returns-6 : tie.Need-returns-6
+returns-6 c =
+    let a = c .before .before .before .before .before .before .before .before .before .before .before .before .before .before .before .args in
+    set-full (serverOf (a .s) (a .memory .now)) (a .key .now) (key-ok (c .before .before .before .before .before .before .before .before .before .before)) (c .before .before .before .before .own-of .result) (c .before .before .before .before .own-of .ensures) (a .payload .now) (payload-ok (c .before .before .before .before .before .before .before .before)) (c .before .before .before .if3 .left) (c .before .before .if4 .left) (sym (c .before .has-free .ensures) ∙ c .if5 .left)
+
+pub set-code-spec : {M : Type 1} → statement M
+set-code-spec =
+    tie.close
+    (tie.spec
+    (λ c κs. search needs)
+    returns
+    (λ c κs. search needs)
+    returns-2
+    (λ c. search needs)
+    (λ c κs. search needs)
+    returns-3
+    returns-4
+    (λ c κs. search needs)
+    returns-5
+    returns-6)

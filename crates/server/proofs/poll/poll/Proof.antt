@@ -1,0 +1,30 @@
+use lib.ListN.{length}
+use Rattle.server.specs.State.{serverOf}
+use Rattle.server.proofs.DoesLaws.{poll-taken}
+use Rattle.server.proofs.PollLaws.{polls, poll-refused}
+use borrow.Author.Needs.{needs}
+use Rattle.server.proofs.poll.poll.Statement.{statement}
+use Rattle.server.proofs.poll.poll.Tie as tie
+
+poll-taken-requires : tie.Need-poll-taken-requires
+poll-taken-requires c κs = let a = c .before .before .before .before .before .before .before .args in (c .before .before .before .before .before .before .before .pre, poll-taken (serverOf (a .s) (a .memory .now)) (a .k) (a .time) (length (a .out .now)) (c .before .before .before .before .poll-code .result) (c .before .before .before .before .poll-code .ensures (a .memory .now)) (c .before .before .enum-told .given .1))
+
+returns : tie.Need-returns
+returns c = let a = c .before .before .before .before .before .before .before .args in poll-refused (a .s) (a .k) (a .time) (a .memory .now) (a .out .now) (c .before .before .before .before .poll-code .result) (c .before .before .f .given .0 .0) (c .refuse .result) (c .before .before .before .before .poll-code .ensures (a .memory .now)) (c .before .before .f .given .1) (c .refuse .ensures)
+
+returns-2 : tie.Need-returns-2
+returns-2 c = let a = c .before .before .before .before .before .before .before .before .before .before .before .before .args in polls (a .s) (a .k) (a .time) (a .memory .now) (c .before .before .before .before .poll-taken .last .1 .0) (a .out .now) (c .before .before .before .before .poll-taken .last .1 .1 .1 .1 .0) (c .before .before .before .before .poll-taken .result) (c .before .before .before .before .before .before .before .before .before .poll-code .result) (c .before .before .before .before .before .before .before .before .before .poll-code .ensures (a .memory .now)) (c .before .before .before .before .before .before .before .enum-told .given .1) (c .before .before .before .before .poll-taken .ensures)
+
+pub poll-spec : {M : Type 1} → statement M
+poll-spec =
+    tie.close
+    (tie.spec
+    (λ c κs. search needs)
+    (λ c. search needs)
+    (λ c κs. search needs)
+    (λ c. search needs)
+    poll-taken-requires
+    returns
+    (λ c. search needs)
+    (λ c. search needs)
+    returns-2)

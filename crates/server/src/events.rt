@@ -1,0 +1,78 @@
+// The events, for any server, memory, octets, slot and time. `Does` says what each leaves and answers.
+ghost use mathlib.Core.Path.{_≡_};
+ghost use lib.ListN.{length};
+ghost use Rattle.rules.specs.Events as events;
+ghost use Rattle.server.specs.State.{Does, DoesOut, Starts};
+use crate::answers::Answer;
+use crate::links;
+use crate::own;
+use crate::packet;
+use crate::peers;
+use crate::poll;
+use slots::state::Server;
+use slots::state::Settings;
+
+// The octets of a server's memory.
+pub const MEMORY: usize = 20800;
+
+// A server with these settings, and a memory with nothing in it. Where they are refused the server counts for nothing.
+pub fn start(settings: Settings, memory: &mut [u8; 20800]) -> Answer
+    ensures { λ r. ⌜ Starts settings (now (memory .entry)) (now (memory .exit)) r ⌝ }
+{
+    peers::start(settings, memory)
+}
+
+pub fn add_peer(s: Server, memory: &mut [u8; 20800], slot: usize, id: &[u8]) -> Answer
+    ensures { λ r. ⌜ Does (events.addPeer slot (now (id .entry))) s (now (memory .entry)) (now (memory .exit)) r ⌝ }
+{
+    peers::add_peer(s, memory, slot, id)
+}
+
+pub fn link_up(s: Server, memory: &mut [u8; 20800], slot: usize, time: u32) -> Answer
+    ensures { λ r. ⌜ Does (events.linkUp slot time) s (now (memory .entry)) (now (memory .exit)) r ⌝ }
+{
+    links::link_up(s, memory, slot, time)
+}
+
+pub fn link_down(s: Server, memory: &mut [u8; 20800], slot: usize, time: u32) -> Answer
+    ensures { λ r. ⌜ Does (events.linkDown slot time) s (now (memory .entry)) (now (memory .exit)) r ⌝ }
+{
+    links::link_down(s, memory, slot, time)
+}
+
+pub fn packet(
+    s: Server,
+    memory: &mut [u8; 20800],
+    slot: usize,
+    time: u32,
+    octets: &[u8],
+    out: &mut [u8],
+) -> Answer
+    ensures { λ r. ⌜ DoesOut (events.packet slot time (now (octets .entry)) (length (now (out .entry)))) s (now (memory .entry)) (now (memory .exit)) (now (out .entry)) (now (out .exit)) r ⌝ }
+{
+    packet::packet(s, memory, slot, time, octets, out)
+}
+
+pub fn poll(s: Server, memory: &mut [u8; 20800], slot: usize, time: u32, out: &mut [u8]) -> Answer
+    ensures { λ r. ⌜ DoesOut (events.poll slot time (length (now (out .entry)))) s (now (memory .entry)) (now (memory .exit)) (now (out .entry)) (now (out .exit)) r ⌝ }
+{
+    poll::poll(s, memory, slot, time, out)
+}
+
+pub fn set(s: Server, memory: &mut [u8; 20800], key: &[u8], payload: &[u8]) -> Answer
+    ensures { λ r. ⌜ Does (events.set (now (key .entry)) (now (payload .entry))) s (now (memory .entry)) (now (memory .exit)) r ⌝ }
+{
+    own::set(s, memory, key, payload)
+}
+
+pub fn withdraw(s: Server, memory: &mut [u8; 20800], key: &[u8]) -> Answer
+    ensures { λ r. ⌜ Does (events.withdraw (now (key .entry))) s (now (memory .entry)) (now (memory .exit)) r ⌝ }
+{
+    own::withdraw(s, memory, key)
+}
+
+pub fn purge(s: Server, memory: &mut [u8; 20800], key: &[u8]) -> Answer
+    ensures { λ r. ⌜ Does (events.purge (now (key .entry))) s (now (memory .entry)) (now (memory .exit)) r ⌝ }
+{
+    own::purge(s, memory, key)
+}
