@@ -1,0 +1,144 @@
+-- A record taken: what it is by its kind, and what its event's contract says of its line.
+-- Assumes nothing.
+use Prim.Native.Nat.{ℕ, _≤_, _<_}
+use mathlib.Core.Path.{_≡_, refl, sym, ap, _∙_, subst}
+use mathlib.Core.Bool.{Bool, true, false, not, _||_, false≢true}
+use mathlib.Core.List.{List, [], _∷_}
+use native.Mathlib.Omega.{arith}
+use lib.Dec.{eqb}
+use lib.ListN.{length}
+use borrow.Author.Tests.{eq-eqb, ne-eqb, le-leb, lt-leb, eqb-true, eqb-false}
+use Rattle.laws.specs.Choice.{pick}
+use Rattle.laws.specs.Lists.{part}
+use Rattle.laws.specs.Puts.{written}
+use Rattle.protocol.specs.Sizes.{idLength}
+use Rattle.rules.specs.Server as rules
+use Rattle.rules.specs.Server.{rowsUsed, settingsCode, fresh}
+use Rattle.rules.specs.Sent.{nothing, octetsOf}
+use Rattle.rules.specs.Events.{Event, addPeer, linkUp, linkDown, packet, poll, set, withdraw, purge, codeOf, counts, sentBy, sentIf, writtenAt}
+use Rattle.rules.specs.Replay.{kindAt, slotIn, timeAt, settingsIn, packetIn, keyIn, payloadIn, Kind, event, other, kindOf, startsGood}
+use Rattle.slots.specs.declared.state.Settings.{Settings}
+use Rattle.slots.specs.declared.state.Server.{Server}
+use Rattle.slots.specs.declared.answers.Failure.the-variants.{Size}
+use Rattle.slots.specs.declared.answers.Outcome.the-variants.{Refused}
+use Rattle.slots.specs.State.{settingsOf}
+use Rattle.server.specs.declared.answers.Answer.{Answer}
+use Rattle.server.specs.State.{serverOf, Does, DoesOut, Starts}
+use Rattle.lines.specs.Lines.{noSettings, ownKindOf, Begins, Takes}
+
+-- ---- a record's event
+-- nothing is written at an event that sends nothing
+sent-none : (b : Bool) (s : rules.Server) (e : Event) → sentBy s e ≡ nothing → sentIf b s e ≡ nothing
+sent-none true s e h = h
+sent-none false s e h = refl
+
+written-none : (s : rules.Server) (e : Event) → sentBy s e ≡ nothing → writtenAt s e ≡ []
+unfolding writtenAt
+written-none s e h = ap octetsOf (sent-none (counts e (codeOf s e)) s e h)
+
+module _ {e : Event} {s : Server} {before after : List ℕ} {r : Answer} where
+  -- an event with an out buffer
+  pub takes-out : {out out′ : List ℕ} {kind : Kind} → event e ≡ kind → DoesOut e s before after out out′ r → Takes kind s before after out out′ r
+  takes-out {out} {out′} h d =
+      let x = d .does in
+      subst (λ (k : Kind). Takes k s before after out out′ r) h (record {
+        server = x .server;
+        line = λ n. λ i. n ∷ x .code i ∷ x .size i ∷ rowsUsed (x .server i .rows) ∷ [];
+        octets = λ n. d .octets;
+      })
+
+  -- one without
+  pub takes-event : {out : List ℕ} {kind : Kind} → event e ≡ kind → ((x : rules.Server) → sentBy x e ≡ nothing) → Does e s before after r
+      → Takes kind s before after out out r
+  unfolding written
+  takes-event {out} h quiet x =
+      takes-out h (record { does = x; octets = ap (λ (p : List ℕ). written p out) (sym (written-none (serverOf s before) e (quiet (serverOf s before)))) })
+
+-- a record of no event
+pub takes-none : {s : Server} {before out : List ℕ} {r : Answer} {kind : Kind} → other ≡ kind → r ≡ record { server = s; outcome = Refused Size; written = 0 }
+    → Takes kind s before before out out r
+unfolding written
+takes-none {s} {before} {out} {r} h e =
+    subst (λ (k : Kind). Takes k s before before out out r) h
+    (subst (λ (x : Answer). Takes other s before before out out x) (sym e)
+    (record { server = refl; line = λ n. refl; octets = λ n. refl }))
+
+pub takes-as : {s : Server} {before after out out′ : List ℕ} {r : Answer} {k kind : Kind} → k ≡ kind → Takes k s before after out out′ r
+    → Takes kind s before after out out′ r
+takes-as {s} {before} {after} {out} {out′} {r} h t = subst (λ (x : Kind). Takes x s before after out out′ r) h t
+
+-- ---- what a record is
+module _ (r : List ℕ) (k : ℕ) (h : k ≡ kindAt r) where
+  is : (n : ℕ) → k ≡ n → eqb (kindAt r) n ≡ true
+  is n e = eq-eqb (kindAt r) n (sym h ∙ e)
+
+  isnt : (n : ℕ) → (k ≡ n → ⊥) → eqb (kindAt r) n ≡ false
+  isnt n e = ne-eqb (kindAt r) n (λ g. e (h ∙ g))
+
+  pub kind-1 : (slot time : ℕ) → slot ≡ slotIn r → time ≡ timeAt r → k ≡ 1 → event (linkUp slot time) ≡ kindOf r
+  kind-1 slot time p q e = rw (is 1 e) (λ i. event (linkUp (p i) (q i)))
+
+  pub kind-2 : (slot time : ℕ) → slot ≡ slotIn r → time ≡ timeAt r → (k ≡ 1 → ⊥) → k ≡ 2 → event (linkDown slot time) ≡ kindOf r
+  kind-2 slot time p q a e = rw (isnt 1 a, is 2 e) (λ i. event (linkDown (p i) (q i)))
+
+  pub kind-3 : (k ≡ 1 → ⊥) → (k ≡ 2 → ⊥) → k ≡ 3 → event (packet (slotIn r) (timeAt r) (packetIn r) 284) ≡ kindOf r
+  kind-3 a b e = rw (isnt 1 a, isnt 2 b, is 3 e)
+
+  pub kind-4 : (k ≡ 1 → ⊥) → (k ≡ 2 → ⊥) → (k ≡ 3 → ⊥) → k ≡ 4 → event (poll (slotIn r) (timeAt r) 284) ≡ kindOf r
+  kind-4 a b d e = rw (isnt 1 a, isnt 2 b, isnt 3 d, is 4 e)
+
+  pub kind-own : (k ≡ 1 → ⊥) → (k ≡ 2 → ⊥) → (k ≡ 3 → ⊥) → (k ≡ 4 → ⊥) → ownKindOf r ≡ kindOf r
+  kind-own a b d e = rw (isnt 1 a, isnt 2 b, isnt 3 d, isnt 4 e)
+
+  pub kind-5 : (key payload : List ℕ) → key ≡ keyIn r → payload ≡ payloadIn r → k ≡ 5 → event (set key payload) ≡ ownKindOf r
+  kind-5 key payload p q e = rw (is 5 e) (λ i. event (set (p i) (q i)))
+
+  pub kind-6 : (key : List ℕ) → key ≡ keyIn r → (k ≡ 5 → ⊥) → k ≡ 6 → event (withdraw key) ≡ ownKindOf r
+  kind-6 key p a e = rw (isnt 5 a, is 6 e) (λ i. event (withdraw (p i)))
+
+  pub kind-7 : (key : List ℕ) → key ≡ keyIn r → (k ≡ 5 → ⊥) → (k ≡ 6 → ⊥) → k ≡ 7 → event (purge key) ≡ ownKindOf r
+  kind-7 key p a b e = rw (isnt 5 a, isnt 6 b, is 7 e) (λ i. event (purge (p i)))
+
+  pub kind-8 : (slot : ℕ) (id : List ℕ) → slot ≡ slotIn r → id ≡ part r 8 4 → (k ≡ 5 → ⊥) → (k ≡ 6 → ⊥) → (k ≡ 7 → ⊥) → k ≡ 8
+      → event (addPeer slot id) ≡ ownKindOf r
+  kind-8 slot id p q a b d e = rw (isnt 5 a, isnt 6 b, isnt 7 d, is 8 e) (λ i. event (addPeer (p i) (q i)))
+
+  pub kind-none : (k ≡ 5 → ⊥) → (k ≡ 6 → ⊥) → (k ≡ 7 → ⊥) → (k ≡ 8 → ⊥) → other ≡ ownKindOf r
+  kind-none a b d e = rw (isnt 5 a, isnt 6 b, isnt 7 d, isnt 8 e)
+
+-- ---- the first record
+-- no whole record, or one of another kind
+pub short : (r : List ℕ) → length r < 292 → startsGood r ≡ false
+short r h = rw (lt-leb 292 (length r) h)
+
+pub not-settings : (r : List ℕ) (k : ℕ) → 292 ≤ length r → k ≡ kindAt r → (k ≡ 0 → ⊥) → startsGood r ≡ false
+not-settings r k h e n = rw (le-leb 292 (length r) h, ne-eqb (kindAt r) 0 (λ g. n (e ∙ g)))
+
+-- a record of settings is as good as they are
+pub is-settings : (r : List ℕ) (k : ℕ) → 292 ≤ length r → k ≡ kindAt r → k ≡ 0 → startsGood r ≡ eqb (settingsCode (settingsIn r)) 0
+is-settings r k h e z = rw (le-leb 292 (length r) h, eq-eqb (kindAt r) 0 (sym e ∙ z))
+
+two-codes : (b : Bool) → _≡_ {A = ℕ} (pick b 17 0) (pick (eqb (pick b 17 0) 0) 0 17)
+two-codes true = refl
+two-codes false = refl
+
+code-picks : (s : rules.Settings) → settingsCode s ≡ pick (eqb (settingsCode s) 0) 0 17
+code-picks s = two-codes (not (eqb (length (s .id)) idLength) || (eqb (s .interval) 0 || eqb (s .factor) 0))
+
+module _ {before after : List ℕ} {r : Answer} where
+  pub begins-not : (input : List ℕ) (s : Settings) → startsGood input ≡ false → s ≡ noSettings → Starts s before after r → Begins input before after r
+  begins-not input s h e x = record {
+    code = x .code ∙ ap (λ (z : Settings). settingsCode (settingsOf z)) e ∙ ap (λ (b : Bool). pick b 0 17) (sym h);
+    server = λ g. absurd (false≢true (sym h ∙ g));
+    same = λ _. x .same (λ g. let z : _≡_ {A = ℕ} 17 0 = sym (ap (λ (t : Settings). settingsCode (settingsOf t)) e) ∙ g in omega arith);
+  }
+
+  pub begins : (input : List ℕ) (s : Settings) → startsGood input ≡ eqb (settingsCode (settingsIn input)) 0 → settingsOf s ≡ settingsIn input
+      → Starts s before after r → Begins input before after r
+  begins input s h e x =
+      let c : settingsCode (settingsOf s) ≡ settingsCode (settingsIn input) = ap settingsCode e in
+      record {
+        code = x .code ∙ c ∙ code-picks (settingsIn input) ∙ ap (λ (b : Bool). pick b 0 17) (sym h);
+        server = λ g. x .server (c ∙ eqb-true (settingsCode (settingsIn input)) 0 (sym h ∙ g)) ∙ ap fresh e;
+        same = λ g. x .same (λ z. eqb-false (settingsCode (settingsIn input)) 0 (sym h ∙ g) (sym c ∙ z));
+      }

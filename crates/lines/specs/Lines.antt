@@ -1,0 +1,69 @@
+-- What a record of the replay program does, and what a whole slice of them does.
+-- Assumes nothing.
+use Prim.Native.Nat.{ℕ, zero, suc, _/_}
+use mathlib.Core.Path.{_≡_}
+use mathlib.Core.Bool.{Bool, true, false}
+use mathlib.Core.List.{List, [], _∷_}
+use lib.ListN.{length, take, drop}
+use Rattle.laws.specs.Choice.{pick}
+use Rattle.laws.specs.Puts.{written}
+use Rattle.rules.specs.Server.{rowsUsed, fresh}
+use lib.Dec.{eqb}
+use Rattle.laws.specs.Lists.{part}
+use Rattle.protocol.specs.Sizes.{idLength}
+use Rattle.rules.specs.Events.{Event, addPeer, set, withdraw, purge, run, items}
+use Rattle.rules.specs.Replay.{recordSize, kindAt, slotIn, settingsIn, keyIn, payloadIn, Kind, event, other, kindOf, lineOf, serverAfter, startsGood}
+use Rattle.rules.specs.History.{history}
+use Rattle.rules.specs.Demand3.{Demand3}
+use Rattle.memory.specs.Memory.{rowsIn}
+use Rattle.slots.specs.declared.state.Settings.{Settings}
+use Rattle.slots.specs.declared.state.Server.{Server}
+use Rattle.slots.specs.Codes.{codeNumber}
+use Rattle.server.specs.declared.answers.Answer.{Answer}
+use Rattle.server.specs.State.{serverOf}
+
+-- settings that are refused
+abbrev pub noSettings : Settings
+noSettings = record { id = 0 ∷ 0 ∷ 0 ∷ 0 ∷ []; protocol = 0; group = 0; interval = 0; factor = 0 }
+
+-- the first record: a server if it is a whole record of accepted settings, else the memory as it came
+pub record Begins (input before after : List ℕ) (r : Answer) : Type 0 where
+  pub code : codeNumber (r .outcome) ≡ pick (startsGood input) 0 17
+  pub server : startsGood input ≡ true → serverOf (r .server) after ≡ fresh (settingsIn input)
+  pub same : startsGood input ≡ false → after ≡ before
+
+-- what a record is whose kind is not 1 to 4
+abbrev pub ownKindOf : List ℕ → Kind
+ownKindOf r =
+    pick (eqb (kindAt r) 5) (event (set (keyIn r) (payloadIn r)))
+    (pick (eqb (kindAt r) 6) (event (withdraw (keyIn r)))
+    (pick (eqb (kindAt r) 7) (event (purge (keyIn r)))
+    (pick (eqb (kindAt r) 8) (event (addPeer (slotIn r) (part r 8 idLength))) other)))
+
+-- a later one: the server, the numbers of its line, and the octets written
+pub record Takes (kind : Kind) (s : Server) (before after out out′ : List ℕ) (r : Answer) : Type 0 where
+  pub server : serverOf (r .server) after ≡ serverAfter kind (serverOf s before)
+  pub line : (n : ℕ) → n ∷ codeNumber (r .outcome) ∷ r .written ∷ rowsUsed (rowsIn after) ∷ [] ≡ lineOf kind n (serverOf s before) .numbers
+  pub octets : (n : ℕ) → out′ ≡ written (lineOf kind n (serverOf s before) .octets) out
+
+-- ---- a whole slice
+abbrev pub withEvent : Kind → List Event → List Event
+withEvent (event e) es = e ∷ es
+withEvent other es = es
+
+-- the events of n records; what is no event adds none
+unfoldable pub eventsFrom : ℕ → List ℕ → List Event
+eventsFrom zero input = []
+eventsFrom (suc n) input = withEvent (kindOf (take recordSize input)) (eventsFrom n (drop recordSize input))
+
+-- those of the whole records behind the first
+unfoldable pub eventsIn : List ℕ → List Event
+eventsIn input = eventsFrom (length (drop recordSize input) / recordSize) (drop recordSize input)
+
+-- the server and memory that a slice leaves are those of its list of events, and demand 3 holds of them
+pub record Runs (input before after : List ℕ) (r : Answer) : Type 0 where
+  pub code : codeNumber (r .outcome) ≡ pick (startsGood input) 0 17
+  pub server : startsGood input ≡ true → serverOf (r .server) after ≡ run (fresh (settingsIn input)) (eventsIn input)
+  pub demand : startsGood input ≡ true
+      → Demand3 (settingsIn input) (serverOf (r .server) after) (history (settingsIn input) (items (fresh (settingsIn input)) (eventsIn input)))
+  pub same : startsGood input ≡ false → after ≡ before
