@@ -39,7 +39,7 @@ pub fn is_live(a: Alignment) -> bool
     match a {
         Alignment::Down => false,
         Alignment::Negotiate => false,
-        Alignment::Summarize(_) => true,
+        Alignment::Summarize(_) => true, // not aligned yet, but changes are put to it
         Alignment::Update => true,
         Alignment::Aligned => true,
     }
