@@ -1,0 +1,31 @@
+use Rattle.laws.proofs.Lists.{take-short}
+use lib.ListN.{length}
+use Prim.Native.Nat.{_≤_}
+use mathlib.Core.Path.{ap}
+use native.Mathlib.Omega.{arith}
+use borrow.Author.Needs.{needs}
+use Rattle.trace.proofs.put_answer.Statement.{statement}
+use Rattle.trace.proofs.put_answer.Tie as tie
+
+-- how many octets there are
+few : (c : tie.After-first) → length (c .first .result .now) ≤ 284
+few c =
+    let a = c .before .before .before .before .before .before .before .before .before .args in
+    omega (arith, ap length (c .first .ensures), take-short (a .a .written) (a .out .now) .1)
+
+put-octets-requires : tie.Need-put-octets-requires
+put-octets-requires c κs = omega (arith, few c)
+
+returns : tie.Need-returns
+returns c = omega (arith, few (c .before .before .before), c .before .before .put-octets .ensures)
+
+pub put-answer-spec : {M : Type 1} → statement M
+put-answer-spec =
+    tie.close
+    (tie.spec
+    (λ c κs. search needs)
+    (λ c κs. search needs)
+    (λ c κs. search needs)
+    put-octets-requires
+    (λ c. search needs)
+    returns)
