@@ -1,23 +1,27 @@
 -- Rows freed at the end of an event, and a fresh memory.
 -- Assumes nothing.
-use Prim.Native.Nat.{ℕ, zero, suc, _+_, _/_, _%_, _≤_, _<_}
+use Prim.Native.Nat.{ℕ, zero, suc, _+_, _-_, _*_, _/_, _%_, _≤_, _<_}
 use mathlib.Core.Path.{_≡_, refl, sym, ap, _∙_}
 use mathlib.Core.Bool.{Bool, true, false, not, _&&_, false≢true}
 use mathlib.Core.List.{List, [], _∷_}
 use native.Mathlib.Nat.{not-suc-le-zero}
 use native.Mathlib.Omega.{arith}
 use native.Mathlib.Decide.{ℕ-discrete}
-use lib.Dec.{eqb}
+use lib.IntN.{pos, negsuc}
+use lib.Signed.{leZ}
+use lib.Dec.{eqb, ltb}
 use lib.ListN.{length, take, set, replicate, length-set, List·getD-eq-default}
 use lib.Seq.{set-getD, getD-set-same, getD-set-other}
-use borrow.Author.Tests.{eqb-false, eq-eqb, ne-eqb}
+use borrow.Author.Tests.{eqb-false, eq-eqb, ne-eqb, ltb-true, lt-leb}
+use mir.Val.{sel}
 use Rattle.laws.specs.Choice.{pick}
 use Rattle.laws.specs.Lists.{part, table}
 use Rattle.laws.proofs.Bools.{or-false}
-use Rattle.protocol.specs.Fields.{octet, field2}
+use Rattle.protocol.specs.Fields.{octet, field2, field4}
+use Rattle.protocol.specs.Numbers.{csaOf}
 use Rattle.rules.specs.Server.{slotsMost, rowsMost, Entry, Value, Row, free, used, isFree, isUsed}
 use Rattle.rules.specs.Rows.{isPurged, anySlot, sweptRow}
-use Rattle.memory.specs.Layout.{rowPlace, markPlace, listPlace, keptPlace}
+use Rattle.memory.specs.Layout.{numberPlace, rowPlace, markPlace, listPlace, keptPlace}
 use Rattle.memory.specs.Memory.{entryAt, valueAt, isMarked, rowIn, rowsIn, requestIn, requestsIn, keptIn, memoryOf, withRows, freshMemory}
 use Rattle.memory.specs.Search.{withRow, goes}
 use Rattle.memory.proofs.RowPlaces.{row-get, used-row, free-row, octet-free}
@@ -117,6 +121,34 @@ swept-free r e t = swept-by r ∙ ap (λ b. pick b free r) (sym e ∙ t)
 
 pub swept-same : (r : Row) {g : Bool} → g ≡ goes r → g ≡ false → sweptRow r ≡ r
 swept-same r e t = swept-by r ∙ ap (λ b. pick b free r) (sym e ∙ t)
+
+-- ---- a row that stays, told by the first octet of its number
+-- 2147483647 is the bits 0x7FFFFFFF, no other
+bits-by : (n : ℕ) (b : Bool) → ltb n 2147483648 ≡ b → (n ≡ 2147483647 → ⊥) → leZ (pos 2147483647) (sel b (pos n) (negsuc (4294967296 - suc n))) ≡ false
+bits-by n true e h = lt-leb 2147483647 n (let l : n < 2147483648 = ltb-true n 2147483648 e in omega arith)
+bits-by n false e h = refl
+
+unpurged : (n : ℕ) → (n ≡ 2147483647 → ⊥) → isPurged (csaOf n) ≡ false
+unpurged n h = bits-by n (ltb n 2147483648) refl h
+
+first-octet : (a b c d : ℕ) → b < 256 → c < 256 → d < 256 → (a ≡ 127 → ⊥) → ((a * 256 + b) * 256 + c) * 256 + d ≡ 2147483647 → ⊥
+first-octet a b c d hb hc hd n e = n (omega arith)
+
+module _ (s : List ℕ) (i : ℕ) where
+  stays-by : (u : Bool) → isUsed (rowIn s i) ≡ u → isPurged (valueAt s (rowPlace i) .number) ≡ false → sweptRow (rowIn s i) ≡ rowIn s i
+  stays-by true u p =
+      let e = used-row s i u in
+      let m = isMarked (octet s (markPlace i)) in
+      ap sweptRow e ∙ ap (λ b. pick (b && not (anySlot m)) free (used (entryAt s (rowPlace i)) (valueAt s (rowPlace i)) m)) p ∙ sym e
+  stays-by false u p =
+      let e = free-row s i u in
+      ap sweptRow e ∙ sym e
+
+  pub swept-stays : ((j : ℕ) → octet s j < 256) → (octet s (rowPlace i + numberPlace) ≡ 127 → ⊥) → sweptRow (rowIn s i) ≡ rowIn s i
+  swept-stays low n =
+      let at = rowPlace i + numberPlace in
+      stays-by (isUsed (rowIn s i)) refl
+      (unpurged (field4 s at) (first-octet (octet s at) (octet s (at + 1)) (octet s (at + 2)) (octet s (at + 3)) (low (at + 1)) (low (at + 2)) (low (at + 3)) n))
 
 -- a row put back as it is
 pub same-memory : (s : List ℕ) (i : ℕ) → i < rowsMost → memoryOf s ≡ withRow s i (rowIn s i)

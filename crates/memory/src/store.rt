@@ -13,6 +13,7 @@ ghost use Rattle.memory.specs.Layout.{rowSize, memorySize, rowPlace};
 ghost use Rattle.memory.specs.Memory.{isMarked, rowIn, rowsIn, memoryOf, withRows, freshMemory};
 ghost use Rattle.memory.specs.Search.{entry, withRow, revalued, padded, valueHead, rowHead, rowOctets, revaluedOctets, FitsRow, PutRow, Inserts, goes};
 use crate::layout::MARKS_AT;
+use crate::layout::NUMBER_PLACE;
 use crate::layout::PAYLOAD_PLACE;
 use crate::layout::ROW_SIZE;
 use crate::layout::ROW_TAIL;
@@ -203,7 +204,7 @@ pub fn insert(
 }
 
 // ---- the end of an event: a purged row that waits for nobody is freed
-fn is_purged(n: CsaNumber) -> bool
+pub fn is_purged(n: CsaNumber) -> bool
     ensures { λ r. ⌜ r ≡ isPurged n ⌝ }
 {
     2147483647 <= n.0
@@ -226,6 +227,10 @@ fn sweep_row(memory: &mut [u8], i: usize)
     requires { ⌜ (length (now memory) ≡ memorySize) × (i < rowsMost) ⌝ }
     ensures { λ _. ⌜ memoryOf (now (memory .exit)) ≡ withRow (now (memory .entry)) i (sweptRow (rowIn (now (memory .entry)) i)) ⌝ }
 {
+    // The first octet of 2147483647: almost every row passes here.
+    if memory[i * ROW_SIZE + NUMBER_PLACE] != 127 {
+        return;
+    }
     if is_gone(memory, i) {
         free_at(memory, i);
     }

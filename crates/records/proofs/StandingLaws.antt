@@ -98,16 +98,16 @@ module _ (e : Entry) (n : CsaNumber) (m : List ℕ) (i : ℕ) (s : Standing) whe
 -- ---- all rows
 module _ (p : Row → Bool) (m : List ℕ) where
   -- b of the rows before i
-  abbrev So : Bool → ℕ → Type 0
+  abbrev pub So : Bool → ℕ → Type 0
   So b i = has p (rowsIn m) ≡ (b || has p (drop i (rowsIn m)))
 
-  so-more : (b : Bool) (i : ℕ) → i < rowsMost → So b i → So (b || p (rowIn m i)) (i + 1)
+  pub so-more : (b : Bool) (i : ℕ) → i < rowsMost → So b i → So (b || p (rowIn m i)) (i + 1)
   so-more b i h f =
       let n : length (rowsIn m) ≡ rowsMost = rows-length m in
       let below : i < length (rowsIn m) = omega arith in
       f ∙ rw (add-one, drop-cons (rowsIn m) i free below, row-get m i h) (or-assoc b (p (rowIn m i)) (has p (drop (suc i) (rowsIn m))))
 
-  so-all : (b : Bool) (i : ℕ) → rowsMost ≤ i → So b i → b ≡ has p (rowsIn m)
+  pub so-all : (b : Bool) (i : ℕ) → rowsMost ≤ i → So b i → b ≡ has p (rowsIn m)
   so-all b i h f =
       let n : length (rowsIn m) ≡ rowsMost = rows-length m in
       let past : length (rowsIn m) ≤ i = omega arith in

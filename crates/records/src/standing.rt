@@ -17,6 +17,7 @@ ghost use Rattle.wire.specs.Views.{csaRecordOf};
 ghost use Rattle.records.specs.Walks.{ruleOf, Stands};
 use memory::rows;
 use memory::rows::Found;
+use memory::store;
 use protocol::CsaNumber;
 use wire::record;
 use wire::record::Csa;
@@ -92,13 +93,6 @@ fn stand_in(memory: &[u8], key: &[u8], originator: &[u8], number: CsaNumber) -> 
     s
 }
 
-// Number 2147483647.
-pub fn is_purged(n: CsaNumber) -> bool
-    ensures { λ r. ⌜ r ≡ rules.isPurged n ⌝ }
-{
-    2147483647 <= n.0
-}
-
 pub fn has_free(memory: &[u8]) -> bool
     requires { ⌜ length (now memory) ≡ memorySize ⌝ }
     ensures { λ r. ⌜ r ≡ has isFree (rowsIn (now (memory .entry))) ⌝ }
@@ -114,7 +108,7 @@ fn absent_rule(memory: &[u8], number: CsaNumber) -> UpdateRule
     requires { ⌜ length (now memory) ≡ memorySize ⌝ }
     ensures { λ r. ⌜ ruleOf r ≡ pick (rules.isPurged number) purgeAbsent (pick (has isFree (rowsIn (now (memory .entry)))) stored full) ⌝ }
 {
-    if is_purged(number) {
+    if store::is_purged(number) {
         return UpdateRule::PurgeAbsent;
     }
     if has_free(memory) {

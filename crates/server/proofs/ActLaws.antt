@@ -10,7 +10,7 @@ use Rattle.protocol.specs.declared.Alignment.the-variants.{Down, Negotiate, Sum
 use Rattle.protocol.specs.declared.Kind.the-variants.{Ca, CsuRequest, CsuReply, Csus, Hello}
 use Rattle.protocol.specs.declared.Link.{Link}
 use Rattle.protocol.specs.Fields.{field2}
-use Rattle.protocol.specs.Messages.{Message, Body, csuRequest}
+use Rattle.protocol.specs.Messages.{CsaRecord, Message, Body, ca, csuRequest, csuReply, csus, hello}
 use Rattle.rules.specs.Server as rules
 use Rattle.rules.specs.Server.{Row}
 use Rattle.rules.specs.Links as links
@@ -73,6 +73,20 @@ ActsBy b m live k now s x before after out out′ r =
     let y = slotOn b s live k now (rowsIn before) m (slotWith x k before) in
     Acts k y (clearedIf (enters (x .link .alignment) (y .link .alignment)) k (rowsOn b live k (rowsIn before)))
     (octetsOf (sentOn b s live k (rowsIn before) m (slotWith x k before))) before after out out′ r
+
+-- the slots that puts go to are looked at for a CSU Request alone
+module _ (m : Message) (f g : ℕ → Bool) (k now : ℕ) (s : rules.Settings) (x : Slot) (before after out out′ : List ℕ) (r : Acted) where
+  by-live : (b : Body) → ((rs : List CsaRecord) → b ≡ csuRequest rs → f ≡ g) → ActsBy b m f k now s x before after out out′ r
+      → ActsBy b m g k now s x before after out out′ r
+  by-live (hello i u ids) e t = t
+  by-live (ca n u rs) e t = t
+  by-live (csuRequest rs) e t = subst (λ (l : ℕ → Bool). ActsBy (csuRequest rs) m l k now s x before after out out′ r) (e rs refl) t
+  by-live (csuReply rs) e t = t
+  by-live (csus rs) e t = t
+
+  pub acts-live : ((rs : List CsaRecord) → m .body ≡ csuRequest rs → f ≡ g) → ActsOn m f k now s x before after out out′ r
+      → ActsOn m g k now s x before after out out′ r
+  acts-live e t = by-live (m .body) e t
 
 module _ {k : ℕ} {slot : rules.Slot} {rows : List Row} {p before after out out′ : List ℕ} {r : Acted} (t : Acts k slot rows p before after out out′ r) where
   acts-rows : (rows′ : List Row) → rows ≡ rows′ → Acts k slot rows′ p before after out out′ r

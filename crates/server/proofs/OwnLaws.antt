@@ -4,11 +4,9 @@ use Prim.Native.Nat.{ℕ, suc, _+_, _≤_, _<_}
 use mathlib.Core.Path.{_≡_, refl, sym, ap, _∙_, subst}
 use mathlib.Core.Bool.{Bool, true, false, _&&_, _||_, false≢true, or-true, or-false, or-assoc}
 use mathlib.Core.List.{List, [], _∷_}
-use native.Mathlib.Numerals.{add-one}
 use native.Mathlib.Omega.{arith}
 use lib.Dec.{eqb, ltb, leb}
-use lib.ListN.{length, drop, drop-of-length-le}
-use lib.Seq.{drop-cons}
+use lib.ListN.{length}
 use borrow.Author.Tests.{ltb-true, leb-true, eq-eqb, ne-eqb, lt-ltb}
 use Rattle.laws.specs.Lists.{isEmpty}
 use Rattle.laws.specs.Tables.{has}
@@ -28,8 +26,9 @@ use Rattle.memory.specs.Layout.{rowPlace}
 use Rattle.memory.specs.Memory.{entryAt, valueAt, rowIn, rowsIn, Memory, memoryOf, withRows}
 use Rattle.memory.specs.Search.{FitsRow}
 use Rattle.memory.specs.Entries.{rowsAs}
-use Rattle.memory.proofs.RowPlaces.{rows-length, row-get, row-case}
+use Rattle.memory.proofs.RowPlaces.{row-case}
 use Rattle.records.proofs.MemoryLaws.{rows-are}
+use Rattle.records.proofs.StandingLaws.{So, so-more, so-all}
 use Rattle.slots.specs.declared.state.Server.{Server}
 use Rattle.slots.specs.declared.answers.Outcome.{Outcome}
 use Rattle.slots.specs.declared.answers.Outcome.the-variants.{Taken}
@@ -77,23 +76,6 @@ module _ (e : Entry) (m : List ℕ) (i : ℕ) (o : Own) where
       (g ∙ ap (λ (v : CsaNumber). o .purged || isPurged v) number) (k ∙ ap (λ (t : Bool). o .empty || t) (no-length p ∙ ap (λ (l : List ℕ). isEmpty l) payload)))
 
 -- ---- all rows
-module _ (p : Row → Bool) (m : List ℕ) where
-  -- b of the rows before i
-  abbrev So : Bool → ℕ → Type 0
-  So b i = has p (rowsIn m) ≡ (b || has p (drop i (rowsIn m)))
-
-  so-more : (b : Bool) (i : ℕ) → i < rowsMost → So b i → So (b || p (rowIn m i)) (i + 1)
-  so-more b i h f =
-      let n : length (rowsIn m) ≡ rowsMost = rows-length m in
-      let below : i < length (rowsIn m) = omega arith in
-      f ∙ rw (add-one, drop-cons (rowsIn m) i free below, row-get m i h) (sym (or-assoc b (p (rowIn m i)) (has p (drop (suc i) (rowsIn m)))))
-
-  so-all : (b : Bool) (i : ℕ) → rowsMost ≤ i → So b i → b ≡ has p (rowsIn m)
-  so-all b i h f =
-      let n : length (rowsIn m) ≡ rowsMost = rows-length m in
-      let past : length (rowsIn m) ≤ i = omega arith in
-      sym (f ∙ rw (drop-of-length-le (rowsIn m) past) (or-false b))
-
 module _ (e : Entry) (m : List ℕ) where
   pub record OwnsTo (o : Own) (i : ℕ) : Type 0 where
     pub within : i ≤ rowsMost

@@ -13,7 +13,7 @@ use Rattle.laws.specs.Puts.{written}
 use Rattle.laws.proofs.Bools.{pick-of}
 use Rattle.protocol.specs.Sizes.{idLength}
 use Rattle.protocol.specs.Fields.{octet}
-use Rattle.protocol.specs.Messages.{Message}
+use Rattle.protocol.specs.Messages.{CsaRecord, Message, csuRequest}
 use Rattle.protocol.specs.Reading.{Reading, malformed, message, readPacket}
 use Rattle.rules.specs.Server as rules
 use Rattle.rules.specs.Server.{slotAt}
@@ -40,7 +40,7 @@ use Rattle.server.specs.State.{zeroSlot, slotsOf, serverOf, ended, Ends,
 use Rattle.server.specs.Events.{ActsOn, slotNow, countsAs, readServer, readOctets, DoesRead}
 use Rattle.server.proofs.ServerLaws.{slot-of, closes, acted-in}
 use Rattle.server.proofs.DoesLaws.{step-not, written-not, out-not, out-counted}
-use Rattle.server.proofs.ActLaws.{moves-rows}
+use Rattle.server.proofs.ActLaws.{moves-rows, acts-live}
 
 -- ---- what was read counts, or not
 none-counts : (c : ℕ) (h : Bool) → eqb c 0 ≡ false → h ≡ false → (eqb c 0 || (eqb c 10 && h)) ≡ false
@@ -106,13 +106,13 @@ module _ (p : List ℕ) (k now : ℕ) (s : Server) (x : Slot) (before : List ℕ
     message-refused f r out t a = read-refused (message m) p k now s before refl f r out (ap codeNumber (sym t) ∙ code-now) a
 
     pub message-taken : (live : ℕ) (mid after out out′ : List ℕ) (a : Acted) (r : Answer) → o ≡ Taken
-        → ((memory : List ℕ) → isMarked live ≡ liveIn (serverOf s memory .slots))
+        → ((memory : List ℕ) (rs : List CsaRecord) → m .body ≡ csuRequest rs → isMarked live ≡ liveIn (serverOf s memory .slots))
         → ActsOn m (isMarked live) k now (settingsOf (s .settings)) x before mid out out′ a → Ends s k now a mid after r
         → DoesRead (message m) p k now s before after out out′ r
     message-taken live mid after out out′ a r t lv d n =
         let z : messageCode (settingsOf (s .settings)) (slotNow s k before) m ≡ 0 = sym code-now ∙ ap codeNumber t in
         let acts : ActsOn m (liveIn (slotsOf (s .slots) before)) k now (settingsOf (s .settings)) (getD (s .slots) k zeroSlot) before mid out out′ a =
-        subst (λ (f : ℕ → Bool). ActsOn m f k now (settingsOf (s .settings)) (getD (s .slots) k zeroSlot) before mid out out′ a) (lv before)
+        acts-live m (isMarked live) (liveIn (slotsOf (s .slots) before)) k now (settingsOf (s .settings)) (getD (s .slots) k zeroSlot) before mid out out′ a (lv before)
         (subst (λ (w : Slot). ActsOn m (isMarked live) k now (settingsOf (s .settings)) w before mid out out′ a) e d) in
         read-counted (message m) p k now s before after r out out′
         (ap (λ (i : ℕ). eqb i 0 || (eqb i 10 && false)) z) (ap codeNumber (n .outcome) ∙ sym z)

@@ -16,7 +16,7 @@ use Rattle.protocol.specs.declared.Checked.{Checked}
 use Rattle.protocol.specs.declared.Checked.the-variants.{Fine, Breaks}
 use Rattle.protocol.specs.Sizes.{idLength}
 use Rattle.protocol.specs.Fields.{octet}
-use Rattle.protocol.specs.Messages.{CsaRecord, Message}
+use Rattle.protocol.specs.Messages.{CsaRecord, Message, Body, ca, csuRequest, csuReply, csus, hello}
 use Rattle.protocol.specs.Checks.{mandatoryCheck}
 use Rattle.protocol.specs.Checksum.{goodSum}
 use Rattle.protocol.specs.Answers.{lengthGood, versionGood, typeGood, noExtensions, fixedCode}
@@ -38,6 +38,18 @@ use Rattle.server.specs.Events.{Reaches}
 -- ---- the body, by the kind
 pub body-is : (p : List ℕ) (h : Head) {k : Kind} → h .kind ≡ k → messageOf p h .body ≡ bodyAt idLength k p (h .records .left) (h .records .at)
 body-is p h e = ap (λ (k : Kind). bodyAt idLength k p (h .records .left) (h .records .at)) e
+
+-- not a CSU Request
+abbrev pub isRequest : Body → Bool
+isRequest (hello i f ids) = false
+isRequest (ca n f rs) = false
+isRequest (csuRequest rs) = true
+isRequest (csuReply rs) = false
+isRequest (csus rs) = false
+
+pub not-request : (p : List ℕ) (h : Head) (k : Kind) → h .kind ≡ k → isRequest (bodyAt idLength k p (h .records .left) (h .records .at)) ≡ false
+    → (rs : List CsaRecord) → messageOf p h .body ≡ csuRequest rs → ⊥
+not-request p h k e n rs t = false≢true (sym n ∙ sym (ap isRequest (body-is p h e)) ∙ ap isRequest t)
 
 -- ---- codes 11 to 14
 module _ (s : rules.Settings) (x : rules.Slot) (m : Message) where

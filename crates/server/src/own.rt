@@ -66,7 +66,7 @@ fn own_row(memory: &[u8], i: usize, key: &[u8], id: &[u8], o: Own) -> Own
     }
     let n = rows::number_of(memory, i);
     let spent = either(o.spent, is_spent(n));
-    let purged = either(o.purged, standing::is_purged(n));
+    let purged = either(o.purged, store::is_purged(n));
     let empty = either(o.empty, rows::payload_of(memory, i).len() == 0);
     Own {
         held: true,

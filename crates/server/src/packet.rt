@@ -7,11 +7,13 @@ ghost use Rattle.laws.specs.Tables.{same};
 ghost use Prim.Native.Nat.{ℕ, _≤_, _<_};
 ghost use lib.ListN.{length};
 ghost use Rattle.protocol.specs.Sizes.{idLength};
+ghost use Rattle.protocol.specs.Messages.{CsaRecord, csuRequest};
 ghost use Rattle.protocol.specs.Reading as reading;
 ghost use Rattle.rules.specs.Server.{Request};
 ghost use Rattle.rules.specs.Server as server;
 ghost use Rattle.rules.specs.Alignment.{ruleFor};
 ghost use Rattle.rules.specs.Refusals as rules;
+ghost use Rattle.rules.specs.Events.{liveIn};
 ghost use Rattle.rules.specs.Events as events;
 ghost use Rattle.memory.specs.Layout.{memorySize};
 ghost use Rattle.memory.specs.Memory.{isMarked};
@@ -20,7 +22,7 @@ ghost use Rattle.slots.specs.Codes.{failureNumber, codeNumber};
 ghost use Rattle.slots.specs.State.{settingsOf, slotOf, ruleOf};
 ghost use Rattle.actions.specs.Parts.{slotWith};
 ghost use Rattle.actions.specs.Steps.{caPacketAt};
-ghost use Rattle.server.specs.State.{DoesOut};
+ghost use Rattle.server.specs.State.{serverOf, DoesOut};
 ghost use Rattle.server.specs.Events.{Reaches, ActsOn, DoesRead};
 use crate::answers;
 use crate::answers::Answer;
@@ -124,6 +126,20 @@ fn message_code(s: Settings, p: &[u8], h: Head, x: Slot, rule: CaRule) -> Outcom
 }
 
 // ---- what a taken packet does, by its type
+// The slots that puts go to. Only a CSU Request asks for them.
+fn live_for(s: Server, h: Head) -> u8
+    ensures { λ r. ⌜ ((memory p : List ℕ) (rs : List CsaRecord) → messageOf p h .body ≡ csuRequest rs → isMarked r ≡ liveIn (serverOf s memory .slots)) ⌝ }
+{
+    let kind = h.kind;
+    match kind {
+        Kind::Ca => 0,
+        Kind::CsuRequest => table::live_of(s),
+        Kind::CsuReply => 0,
+        Kind::Csus => 0,
+        Kind::Hello => 0,
+    }
+}
+
 fn act(
     s: Settings,
     memory: &mut [u8],
@@ -170,7 +186,7 @@ fn message(
     match message_code(settings, p, h, x, rule) {
         Outcome::Refused(f) => answers::refuse(s, f),
         Outcome::Taken => {
-            let live = table::live_of(s);
+            let live = live_for(s, h);
             let acted = act(settings, memory, live, p, h, k, time, x, rule, out);
             table::taken(s, memory, k, time, acted)
         }
