@@ -22,22 +22,17 @@ pub fn slot_at(s: Server, k: usize) -> Slot
     requires { ⌜ k < 8 ⌝ }
     ensures { λ r. ⌜ r ≡ getD (s .slots) k zeroSlot ⌝ }
 {
-    let slots = s.slots;
-    slots[k]
+    s.slots[k]
 }
 
 pub fn with_slot(s: Server, k: usize, x: Slot, time: u32) -> Server
     requires { ⌜ k < 8 ⌝ }
     ensures { λ r. ⌜ r ≡ withSlot s k x time ⌝ }
 {
-    let settings = s.settings;
-    let mut slots = s.slots;
-    slots[k] = x;
-    Server {
-        settings,
-        time: time,
-        slots,
-    }
+    let mut server = s;
+    server.slots[k] = x;
+    server.time = time;
+    server
 }
 
 // ---- the slots that puts go to, as an octet of marks
