@@ -1,4 +1,4 @@
-// Document 01, 'Answers to an event': the cases of codes 1 to 4 and 11 to 14, and what is answered.
+// Document 01, 'Answers to an event': the cases of codes 1 to 4, and what is answered.
 ghost use mathlib.Core.Path.{_≡_};
 ghost use mathlib.Core.List.{List};
 ghost use lib.Dec.{ltb};
