@@ -42,7 +42,7 @@ code-good : (b : Bool) → _≡_ {A = ℕ} (pick b 0 17) 0 → b ≡ true
 code-good true h = refl
 code-good false h = absurd (omega arith)
 
-module _ {input before after : List ℕ} {a : Answer} (r : Runs input before after a) where
+module _ {input slots slots′ before after : List ℕ} {a : Answer} (r : Runs input slots slots′ before after a) where
   pub ran : {n : ℕ} → eqb (codeNumber (a .outcome)) 0 ≡ true → n ≡ rowsUsed (rowsIn after) → n ≡ usedAfter input
   ran {n} h e =
       let g : startsGood input ≡ true = code-good (startsGood input) (sym (r .code) ∙ eqb-true (codeNumber (a .outcome)) 0 h) in

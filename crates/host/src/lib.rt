@@ -3,10 +3,10 @@ ghost use mathlib.Core.Path.{_≡_};
 ghost use Rattle.host.specs.Host.{usedAfter};
 use lines::run;
 
-fn run_in(memory: &mut [u8; 20800], input: &[u8]) -> u32
+fn run_in(slots: &mut [usize; 192], memory: &mut [u8; 20800], input: &[u8]) -> u32
     ensures { λ r. ⌜ r ≡ usedAfter (now (input .entry)) ⌝ }
 {
-    let a = run::run(memory, input);
+    let a = run::run(slots, memory, input);
     let outcome = a.outcome;
     if slots::answers::is_taken(outcome) {
         return server::queries::rows_used(memory) as u32;
@@ -19,6 +19,7 @@ fn run_in(memory: &mut [u8; 20800], input: &[u8]) -> u32
 pub extern "C" fn wemelstuif_run(input: &[u8]) -> u32
     ensures { λ r. ⌜ r ≡ usedAfter (now (input .entry)) ⌝ }
 {
+    let mut slots = [0usize; 192];
     let mut memory = [0u8; 20800];
-    run_in(&mut memory, input)
+    run_in(&mut slots, &mut memory, input)
 }

@@ -10,7 +10,7 @@ use native.Mathlib.Omega.{arith}
 use lib.ListN.{length, getD, set, take, replicate}
 use Rattle.laws.specs.Choice.{pick}
 use Rattle.laws.specs.Lists.{All}
-use Rattle.laws.specs.Tables.{has, change, update, without, In, here, there}
+use Rattle.laws.specs.Tables.{has, find, change, update, without, In, here, there}
 use Rattle.laws.proofs.Bools.{or-false, or-right, is-false, pick-of}
 
 -- ---- every cell
@@ -83,7 +83,21 @@ module _ {A : Type 0} (d : A) (p : A → Bool) where
   abbrev pub AtMostOne : List A → Type 0
   AtMostOne l = (i j : ℕ) → p (getD l i d) ≡ true → p (getD l j d) ≡ true → i ≡ j
 
-  -- then a change of the first is a change of all
+  rest-at-most : (x : A) (xs : List A) → AtMostOne (x ∷ xs) → AtMostOne xs
+  rest-at-most x xs h i j q r = let z = h (suc i) (suc j) q r in omega arith
+
+  -- then the first is the one
+  found-by : (x : A) (xs : List A) (i : ℕ) → AtMostOne (x ∷ xs) → find p d xs ≡ getD xs i d → p (getD xs i d) ≡ true → (b : Bool) → p x ≡ b
+      → pick b x (find p d xs) ≡ getD xs i d
+  found-by x xs i h ih t true e = let z = h 0 (suc i) e t in absurd (omega arith)
+  found-by x xs i h ih t false e = ih
+
+  pub one-found : (l : List A) → AtMostOne l → (i : ℕ) → p (getD l i d) ≡ true → find p d l ≡ getD l i d
+  one-found [] h i t = refl
+  one-found (x ∷ xs) h zero t = rw t
+  one-found (x ∷ xs) h (suc i) t = found-by x xs i h (one-found xs (rest-at-most x xs h) i t) t (p x) refl
+
+  -- and a change of the first is a change of all
   none-update : (f : A → A) (l : List A) → ((i : ℕ) → p (getD l i d) ≡ true → ⊥) → update p f l ≡ l
   none-update f [] h = refl
   none-update f (x ∷ xs) h = rw (is-false (p x) (h 0), none-update f xs (λ i. h (suc i)))
@@ -96,7 +110,7 @@ module _ {A : Type 0} (d : A) (p : A → Bool) where
   pub change-update : (f : A → A) (l : List A) → AtMostOne l → change p f l ≡ update p f l
   change-update f [] h = refl
   change-update f (x ∷ xs) h =
-      change-update-by f x xs h (change-update f xs (λ i j q r. let z = h (suc i) (suc j) q r in omega arith)) (p x) refl
+      change-update-by f x xs h (change-update f xs (rest-at-most x xs h)) (p x) refl
 
 -- then a test that implies p says of the cell that passes p what it says of the table
 module _ {A : Type 0} (d : A) (p q : A → Bool) (only : (x : A) → q x ≡ true → p x ≡ true) (past : q d ≡ false) where

@@ -1,15 +1,15 @@
 -- Laws of `All`: what each cell of a table keeps.
 -- Assumes nothing.
 use Prim.Native.Nat.{ℕ, zero, suc}
-use mathlib.Core.Path.{_≡_, refl, sym}
-use mathlib.Core.Bool.{Bool, true, false, _||_, false≢true}
+use mathlib.Core.Path.{_≡_, refl}
+use mathlib.Core.Bool.{Bool, true, false}
 use mathlib.Core.List.{List, [], _∷_, _++_, map}
 use lib.ListN as lists
 use lib.ListN.{getD, take, drop, replicate}
 use Rattle.laws.specs.Choice.{pick}
 use Rattle.laws.specs.Lists.{All}
 use Rattle.laws.proofs.Bools.{pick-of}
-use Rattle.laws.specs.Tables.{has, find, change, without}
+use Rattle.laws.specs.Tables.{find, change, without}
 
 -- what holds of both choices, or of each in its case
 pub picked : {A : Type 0} (P : A → Type 0) (b : Bool) (x y : A) → (b ≡ true → P x) → (b ≡ false → P y) → P (pick b x y)
@@ -62,19 +62,13 @@ module _ {A : Type 0} where
   all-find P p d [] h a = h
   all-find P p d (x ∷ l) h a = pick-of P (p x) x (find p d l) (a .0) (all-find P p d l h (a .1))
 
-  -- the first that passes is changed
-  pub all-change : (P Q : A → Type 0) (p : A → Bool) (f : A → A) → ((x : A) → p x ≡ true → P x → Q (f x)) → ((x : A) → P x → Q x)
-      → (l : List A) → All P l → All Q (change p f l)
-  all-change P Q p f h k [] a = tt
-  all-change P Q p f h k (x ∷ l) a =
-      picked (All Q) (p x) (f x ∷ l) (x ∷ change p f l) (λ e. (h x e (a .0), all-mono P Q k l (a .1)))
-      (λ e. (k x (a .0), all-change P Q p f h k l (a .1)))
+  -- the first that passes is changed, and keeps what holds of each cell
+  module _ (P : A → Type 0) (p : A → Bool) (f : A → A) (d : A) where
+    change-by : (x : A) (l : List A) → All P (x ∷ l) → ((P (find p d l) → P (f (find p d l))) → All P (change p f l)) → (b : Bool)
+        → (P (pick b x (find p d l)) → P (f (pick b x (find p d l)))) → All P (pick b (f x ∷ l) (x ∷ change p f l))
+    change-by x l a ih true h = (h (a .0), a .1)
+    change-by x l a ih false h = (a .0, ih h)
 
-  -- none passes, and something else holds of each
-  pub all-none : (P : A → Type 0) (p : A → Bool) (l : List A) → has p l ≡ false → All P l → All (λ x. (p x ≡ false) × P x) l
-  all-none P p [] e a = tt
-  all-none P p (x ∷ l) e a = by (p x) refl e (λ h. all-none P p l h (a .1)) where
-    by : (b : Bool) → p x ≡ b → (b || has p l) ≡ false → (has p l ≡ false → All (λ y. (p y ≡ false) × P y) l)
-        → All (λ y. (p y ≡ false) × P y) (x ∷ l)
-    by true w h more = absurd (false≢true (sym h))
-    by false w h more = ((w, a .0), more h)
+    pub all-change : (l : List A) → (P (find p d l) → P (f (find p d l))) → All P l → All P (change p f l)
+    all-change [] h a = tt
+    all-change (x ∷ l) h a = change-by x l a (λ k. all-change l k (a .1)) (p x) h

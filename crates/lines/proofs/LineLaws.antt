@@ -24,7 +24,7 @@ use Rattle.slots.specs.declared.answers.Outcome.the-variants.{Refused}
 use Rattle.slots.specs.State.{settingsOf}
 use Rattle.server.specs.declared.answers.Answer.{Answer}
 use Rattle.server.specs.State.{serverOf, Does, DoesOut, Starts}
-use Rattle.lines.specs.Lines.{noSettings, ownKindOf, Begins, Takes}
+use Rattle.lines.specs.Lines.{noSettings, Untimed, Begins, Takes}
 
 -- ---- a record's event
 -- nothing is written at an event that sends nothing
@@ -36,36 +36,32 @@ written-none : (s : rules.Server) (e : Event) → sentBy s e ≡ nothing → wri
 unfolding writtenAt
 written-none s e h = ap octetsOf (sent-none (counts e (codeOf s e)) s e h)
 
-module _ {e : Event} {s : Server} {before after : List ℕ} {r : Answer} where
+module _ {e : Event} {s : Server} {slots slots′ before after : List ℕ} {r : Answer} where
   -- an event with an out buffer
-  pub takes-out : {out out′ : List ℕ} {kind : Kind} → event e ≡ kind → DoesOut e s before after out out′ r → Takes kind s before after out out′ r
+  pub takes-out : {out out′ : List ℕ} {kind : Kind} → event e ≡ kind → DoesOut e s slots slots′ before after out out′ r → Takes kind s slots slots′ before after out out′ r
   takes-out {out} {out′} h d =
       let x = d .does in
-      subst (λ (k : Kind). Takes k s before after out out′ r) h (record {
+      subst (λ (k : Kind). Takes k s slots slots′ before after out out′ r) h (record {
         server = x .server;
         line = λ n. λ i. n ∷ x .code i ∷ x .size i ∷ rowsUsed (x .server i .rows) ∷ [];
         octets = λ n. d .octets;
       })
 
   -- one without
-  pub takes-event : {out : List ℕ} {kind : Kind} → event e ≡ kind → ((x : rules.Server) → sentBy x e ≡ nothing) → Does e s before after r
-      → Takes kind s before after out out r
+  pub takes-event : {out : List ℕ} {kind : Kind} → event e ≡ kind → ((x : rules.Server) → sentBy x e ≡ nothing) → Does e s slots slots′ before after r
+      → Takes kind s slots slots′ before after out out r
   unfolding written
   takes-event {out} h quiet x =
-      takes-out h (record { does = x; octets = ap (λ (p : List ℕ). written p out) (sym (written-none (serverOf s before) e (quiet (serverOf s before)))) })
+      takes-out h (record { does = x; octets = ap (λ (p : List ℕ). written p out) (sym (written-none (serverOf s slots before) e (quiet (serverOf s slots before)))) })
 
 -- a record of no event
-pub takes-none : {s : Server} {before out : List ℕ} {r : Answer} {kind : Kind} → other ≡ kind → r ≡ record { server = s; outcome = Refused Size; written = 0 }
-    → Takes kind s before before out out r
+pub takes-none : {s : Server} {slots before out : List ℕ} {r : Answer} {kind : Kind} → other ≡ kind → r ≡ record { server = s; outcome = Refused Size; written = 0 }
+    → Takes kind s slots slots before before out out r
 unfolding written
-takes-none {s} {before} {out} {r} h e =
-    subst (λ (k : Kind). Takes k s before before out out r) h
-    (subst (λ (x : Answer). Takes other s before before out out x) (sym e)
+takes-none {s} {slots} {before} {out} {r} h e =
+    subst (λ (k : Kind). Takes k s slots slots before before out out r) h
+    (subst (λ (x : Answer). Takes other s slots slots before before out out x) (sym e)
     (record { server = refl; line = λ n. refl; octets = λ n. refl }))
-
-pub takes-as : {s : Server} {before after out out′ : List ℕ} {r : Answer} {k kind : Kind} → k ≡ kind → Takes k s before after out out′ r
-    → Takes kind s before after out out′ r
-takes-as {s} {before} {after} {out} {out′} {r} h t = subst (λ (x : Kind). Takes x s before after out out′ r) h t
 
 -- ---- what a record is
 module _ (r : List ℕ) (k : ℕ) (h : k ≡ kindAt r) where
@@ -87,24 +83,37 @@ module _ (r : List ℕ) (k : ℕ) (h : k ≡ kindAt r) where
   pub kind-4 : (k ≡ 1 → ⊥) → (k ≡ 2 → ⊥) → (k ≡ 3 → ⊥) → k ≡ 4 → event (poll (slotIn r) (timeAt r) 284) ≡ kindOf r
   kind-4 a b d e = rw (isnt 1 a, isnt 2 b, isnt 3 d, is 4 e)
 
-  pub kind-own : (k ≡ 1 → ⊥) → (k ≡ 2 → ⊥) → (k ≡ 3 → ⊥) → (k ≡ 4 → ⊥) → ownKindOf r ≡ kindOf r
-  kind-own a b d e = rw (isnt 1 a, isnt 2 b, isnt 3 d, isnt 4 e)
+  pub untimed : (k ≡ 1 → ⊥) → (k ≡ 2 → ⊥) → (k ≡ 3 → ⊥) → (k ≡ 4 → ⊥) → Untimed r
+  untimed a b d e = (λ g. a (h ∙ g), (λ g. b (h ∙ g), (λ g. d (h ∙ g), λ g. e (h ∙ g))))
 
-  pub kind-5 : (key payload : List ℕ) → key ≡ keyIn r → payload ≡ payloadIn r → k ≡ 5 → event (set key payload) ≡ ownKindOf r
-  kind-5 key payload p q e = rw (is 5 e) (λ i. event (set (p i) (q i)))
+  module _ (u : Untimed r) where
+    no-1 : eqb (kindAt r) 1 ≡ false
+    no-1 = ne-eqb (kindAt r) 1 (u .0)
 
-  pub kind-6 : (key : List ℕ) → key ≡ keyIn r → (k ≡ 5 → ⊥) → k ≡ 6 → event (withdraw key) ≡ ownKindOf r
-  kind-6 key p a e = rw (isnt 5 a, is 6 e) (λ i. event (withdraw (p i)))
+    no-2 : eqb (kindAt r) 2 ≡ false
+    no-2 = ne-eqb (kindAt r) 2 (u .1 .0)
 
-  pub kind-7 : (key : List ℕ) → key ≡ keyIn r → (k ≡ 5 → ⊥) → (k ≡ 6 → ⊥) → k ≡ 7 → event (purge key) ≡ ownKindOf r
-  kind-7 key p a b e = rw (isnt 5 a, isnt 6 b, is 7 e) (λ i. event (purge (p i)))
+    no-3 : eqb (kindAt r) 3 ≡ false
+    no-3 = ne-eqb (kindAt r) 3 (u .1 .1 .0)
 
-  pub kind-8 : (slot : ℕ) (id : List ℕ) → slot ≡ slotIn r → id ≡ part r 8 4 → (k ≡ 5 → ⊥) → (k ≡ 6 → ⊥) → (k ≡ 7 → ⊥) → k ≡ 8
-      → event (addPeer slot id) ≡ ownKindOf r
-  kind-8 slot id p q a b d e = rw (isnt 5 a, isnt 6 b, isnt 7 d, is 8 e) (λ i. event (addPeer (p i) (q i)))
+    no-4 : eqb (kindAt r) 4 ≡ false
+    no-4 = ne-eqb (kindAt r) 4 (u .1 .1 .1)
 
-  pub kind-none : (k ≡ 5 → ⊥) → (k ≡ 6 → ⊥) → (k ≡ 7 → ⊥) → (k ≡ 8 → ⊥) → other ≡ ownKindOf r
-  kind-none a b d e = rw (isnt 5 a, isnt 6 b, isnt 7 d, isnt 8 e)
+    pub kind-5 : (key payload : List ℕ) → key ≡ keyIn r → payload ≡ payloadIn r → k ≡ 5 → event (set key payload) ≡ kindOf r
+    kind-5 key payload p q e = rw (no-1, no-2, no-3, no-4, is 5 e) (λ i. event (set (p i) (q i)))
+
+    pub kind-6 : (key : List ℕ) → key ≡ keyIn r → (k ≡ 5 → ⊥) → k ≡ 6 → event (withdraw key) ≡ kindOf r
+    kind-6 key p a e = rw (no-1, no-2, no-3, no-4, isnt 5 a, is 6 e) (λ i. event (withdraw (p i)))
+
+    pub kind-7 : (key : List ℕ) → key ≡ keyIn r → (k ≡ 5 → ⊥) → (k ≡ 6 → ⊥) → k ≡ 7 → event (purge key) ≡ kindOf r
+    kind-7 key p a b e = rw (no-1, no-2, no-3, no-4, isnt 5 a, isnt 6 b, is 7 e) (λ i. event (purge (p i)))
+
+    pub kind-8 : (slot : ℕ) (id : List ℕ) → slot ≡ slotIn r → id ≡ part r 8 4 → (k ≡ 5 → ⊥) → (k ≡ 6 → ⊥) → (k ≡ 7 → ⊥) → k ≡ 8
+        → event (addPeer slot id) ≡ kindOf r
+    kind-8 slot id p q a b d e = rw (no-1, no-2, no-3, no-4, isnt 5 a, isnt 6 b, isnt 7 d, is 8 e) (λ i. event (addPeer (p i) (q i)))
+
+    pub kind-none : (k ≡ 5 → ⊥) → (k ≡ 6 → ⊥) → (k ≡ 7 → ⊥) → (k ≡ 8 → ⊥) → other ≡ kindOf r
+    kind-none a b d e = rw (no-1, no-2, no-3, no-4, isnt 5 a, isnt 6 b, isnt 7 d, isnt 8 e)
 
 -- ---- the first record
 -- no whole record, or one of another kind
@@ -125,20 +134,22 @@ two-codes false = refl
 code-picks : (s : rules.Settings) → settingsCode s ≡ pick (eqb (settingsCode s) 0) 0 17
 code-picks s = two-codes (not (eqb (length (s .id)) idLength) || (eqb (s .interval) 0 || eqb (s .factor) 0))
 
-module _ {before after : List ℕ} {r : Answer} where
-  pub begins-not : (input : List ℕ) (s : Settings) → startsGood input ≡ false → s ≡ noSettings → Starts s before after r → Begins input before after r
+module _ {slots slots′ before after : List ℕ} {r : Answer} where
+  pub begins-not : (input : List ℕ) (s : Settings) → startsGood input ≡ false → s ≡ noSettings → Starts s slots slots′ before after r → Begins input slots slots′ before after r
   begins-not input s h e x = record {
     code = x .code ∙ ap (λ (z : Settings). settingsCode (settingsOf z)) e ∙ ap (λ (b : Bool). pick b 0 17) (sym h);
     server = λ g. absurd (false≢true (sym h ∙ g));
+    size = x .size;
     same = λ _. x .same (λ g. let z : _≡_ {A = ℕ} 17 0 = sym (ap (λ (t : Settings). settingsCode (settingsOf t)) e) ∙ g in omega arith);
   }
 
   pub begins : (input : List ℕ) (s : Settings) → startsGood input ≡ eqb (settingsCode (settingsIn input)) 0 → settingsOf s ≡ settingsIn input
-      → Starts s before after r → Begins input before after r
+      → Starts s slots slots′ before after r → Begins input slots slots′ before after r
   begins input s h e x =
       let c : settingsCode (settingsOf s) ≡ settingsCode (settingsIn input) = ap settingsCode e in
       record {
         code = x .code ∙ c ∙ code-picks (settingsIn input) ∙ ap (λ (b : Bool). pick b 0 17) (sym h);
         server = λ g. x .server (c ∙ eqb-true (settingsCode (settingsIn input)) 0 (sym h ∙ g)) ∙ ap fresh e;
+        size = x .size;
         same = λ g. x .same (λ z. eqb-false (settingsCode (settingsIn input)) 0 (sym h ∙ g) (sym c ∙ z));
       }

@@ -61,9 +61,9 @@ accepted input g =
     let h = and-true (leb recordSize (length input)) (eqb (kindAt input) 0 && eqb (settingsCode (settingsIn input)) 0) g .1 in
     eqb-true (settingsCode (settingsIn input)) 0 (and-true (eqb (kindAt input) 0) (eqb (settingsCode (settingsIn input)) 0) h .1)
 
-module _ {input before mid : List ℕ} {first : Answer} (b : Begins input before mid first) where
+module _ {input slots slots₁ before mid : List ℕ} {first : Answer} (b : Begins input slots slots₁ before mid first) where
   -- no accepted settings
-  pub runs-not : eqb (codeNumber (first .outcome)) 0 ≡ false → Runs input before mid first
+  pub runs-not : eqb (codeNumber (first .outcome)) 0 ≡ false → Runs input slots slots₁ before mid first
   runs-not h =
       let bad : startsGood input ≡ false =
       is-false (startsGood input) (λ g. eqb-false (codeNumber (first .outcome)) 0 h (b .code ∙ ap (λ (t : Bool). pick t 0 17) g)) in
@@ -71,6 +71,7 @@ module _ {input before mid : List ℕ} {first : Answer} (b : Begins input before
         code = b .code;
         server = λ g. absurd (false≢true (sym bad ∙ g));
         demand = λ g. absurd (false≢true (sym bad ∙ g));
+        size = b .size;
         same = b .same;
       }
 
@@ -84,16 +85,17 @@ module _ {input before mid : List ℕ} {first : Answer} (b : Begins input before
       (and-true (leb recordSize (length input)) (eqb (kindAt input) 0 && eqb (settingsCode (settingsIn input)) 0) (good h) .0)
 
   -- the records behind them run
-  pub runs : {after : List ℕ} {s : Server} {r : Answer} → eqb (codeNumber (first .outcome)) 0 ≡ true
-      → serverOf s after ≡ run (serverOf (first .server) mid) (eventsIn input) → r ≡ record { server = s; outcome = Taken; written = 0 }
-      → Runs input before after r
-  runs {after} {s} {r} h e is =
+  pub runs : {slots₂ after : List ℕ} {s : Server} {r : Answer} → eqb (codeNumber (first .outcome)) 0 ≡ true
+      → serverOf s slots₂ after ≡ run (serverOf (first .server) slots₁ mid) (eventsIn input) → r ≡ record { server = s; outcome = Taken; written = 0 }
+      → Runs input slots slots₂ before after r
+  runs {slots₂} {after} {s} {r} h e is =
       let c : Settings = settingsIn input in
       let es : List Event = eventsIn input in
-      let ran : serverOf s after ≡ run (fresh c) es = e ∙ ap (λ (x : rules.Server). run x es) (b .server (good h)) in
-      subst (λ (x : Answer). Runs input before after x) (sym is) (record {
+      let ran : serverOf s slots₂ after ≡ run (fresh c) es = e ∙ ap (λ (x : rules.Server). run x es) (b .server (good h)) in
+      subst (λ (x : Answer). Runs input slots slots₂ before after x) (sym is) (record {
         code = ap (λ (t : Bool). pick t 0 17) (sym (good h));
         server = λ _. ran;
         demand = λ g. subst (λ (x : rules.Server). Demand3 c x (history c (items (fresh c) es))) (sym ran) (demand-3 c (accepted input g) es);
+        size = refl;
         same = λ g. absurd (false≢true (sym g ∙ good h));
       })

@@ -8,11 +8,8 @@ use lib.ListN.{length, take, drop}
 use Rattle.laws.specs.Choice.{pick}
 use Rattle.laws.specs.Puts.{written}
 use Rattle.rules.specs.Server.{rowsUsed, fresh}
-use lib.Dec.{eqb}
-use Rattle.laws.specs.Lists.{part}
-use Rattle.protocol.specs.Sizes.{idLength}
-use Rattle.rules.specs.Events.{Event, addPeer, set, withdraw, purge, run, items}
-use Rattle.rules.specs.Replay.{recordSize, kindAt, slotIn, settingsIn, keyIn, payloadIn, Kind, event, other, kindOf, lineOf, serverAfter, startsGood}
+use Rattle.rules.specs.Events.{Event, run, items}
+use Rattle.rules.specs.Replay.{recordSize, kindAt, settingsIn, Kind, event, other, kindOf, lineOf, serverAfter, startsGood}
 use Rattle.rules.specs.History.{history}
 use Rattle.rules.specs.Demand3.{Demand3}
 use Rattle.memory.specs.Memory.{rowsIn}
@@ -26,25 +23,22 @@ use Rattle.server.specs.State.{serverOf}
 abbrev pub noSettings : Settings
 noSettings = record { id = 0 ∷ 0 ∷ 0 ∷ 0 ∷ []; protocol = 0; group = 0; interval = 0; factor = 0 }
 
--- the first record: a server if it is a whole record of accepted settings, else the memory as it came
-pub record Begins (input before after : List ℕ) (r : Answer) : Type 0 where
+-- the first record: a server if it is a whole record of accepted settings, else the slots and the memory as they came
+pub record Begins (input slots slots′ before after : List ℕ) (r : Answer) : Type 0 where
   pub code : codeNumber (r .outcome) ≡ pick (startsGood input) 0 17
-  pub server : startsGood input ≡ true → serverOf (r .server) after ≡ fresh (settingsIn input)
-  pub same : startsGood input ≡ false → after ≡ before
+  pub server : startsGood input ≡ true → serverOf (r .server) slots′ after ≡ fresh (settingsIn input)
+  pub size : r .written ≡ 0
+  pub same : startsGood input ≡ false → (slots′ ≡ slots) × (after ≡ before)
 
--- what a record is whose kind is not 1 to 4
-abbrev pub ownKindOf : List ℕ → Kind
-ownKindOf r =
-    pick (eqb (kindAt r) 5) (event (set (keyIn r) (payloadIn r)))
-    (pick (eqb (kindAt r) 6) (event (withdraw (keyIn r)))
-    (pick (eqb (kindAt r) 7) (event (purge (keyIn r)))
-    (pick (eqb (kindAt r) 8) (event (addPeer (slotIn r) (part r 8 idLength))) other)))
+-- a record whose event has no time, or that is no event
+abbrev pub Untimed : List ℕ → Type 0
+Untimed r = (kindAt r ≡ 1 → ⊥) × ((kindAt r ≡ 2 → ⊥) × ((kindAt r ≡ 3 → ⊥) × (kindAt r ≡ 4 → ⊥)))
 
 -- a later one: the server, the numbers of its line, and the octets written
-pub record Takes (kind : Kind) (s : Server) (before after out out′ : List ℕ) (r : Answer) : Type 0 where
-  pub server : serverOf (r .server) after ≡ serverAfter kind (serverOf s before)
-  pub line : (n : ℕ) → n ∷ codeNumber (r .outcome) ∷ r .written ∷ rowsUsed (rowsIn after) ∷ [] ≡ lineOf kind n (serverOf s before) .numbers
-  pub octets : (n : ℕ) → out′ ≡ written (lineOf kind n (serverOf s before) .octets) out
+pub record Takes (kind : Kind) (s : Server) (slots slots′ before after out out′ : List ℕ) (r : Answer) : Type 0 where
+  pub server : serverOf (r .server) slots′ after ≡ serverAfter kind (serverOf s slots before)
+  pub line : (n : ℕ) → n ∷ codeNumber (r .outcome) ∷ r .written ∷ rowsUsed (rowsIn after) ∷ [] ≡ lineOf kind n (serverOf s slots before) .numbers
+  pub octets : (n : ℕ) → out′ ≡ written (lineOf kind n (serverOf s slots before) .octets) out
 
 -- ---- a whole slice
 abbrev pub withEvent : Kind → List Event → List Event
@@ -60,10 +54,11 @@ eventsFrom (suc n) input = withEvent (kindOf (take recordSize input)) (eventsFro
 unfoldable pub eventsIn : List ℕ → List Event
 eventsIn input = eventsFrom (length (drop recordSize input) / recordSize) (drop recordSize input)
 
--- the server and memory that a slice leaves are those of its list of events, and demand 3 holds of them
-pub record Runs (input before after : List ℕ) (r : Answer) : Type 0 where
+-- the server, slots and memory that a slice leaves are those of its list of events, and demand 3 holds of them
+pub record Runs (input slots slots′ before after : List ℕ) (r : Answer) : Type 0 where
   pub code : codeNumber (r .outcome) ≡ pick (startsGood input) 0 17
-  pub server : startsGood input ≡ true → serverOf (r .server) after ≡ run (fresh (settingsIn input)) (eventsIn input)
+  pub server : startsGood input ≡ true → serverOf (r .server) slots′ after ≡ run (fresh (settingsIn input)) (eventsIn input)
   pub demand : startsGood input ≡ true
-      → Demand3 (settingsIn input) (serverOf (r .server) after) (history (settingsIn input) (items (fresh (settingsIn input)) (eventsIn input)))
-  pub same : startsGood input ≡ false → after ≡ before
+      → Demand3 (settingsIn input) (serverOf (r .server) slots′ after) (history (settingsIn input) (items (fresh (settingsIn input)) (eventsIn input)))
+  pub size : r .written ≡ 0
+  pub same : startsGood input ≡ false → (slots′ ≡ slots) × (after ≡ before)

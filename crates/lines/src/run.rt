@@ -11,16 +11,16 @@ use server::answers::Answer;
 use slots::state::Server;
 
 // The records behind the first, each taken by the server that the last one left.
-fn run_from(s: Server, memory: &mut [u8; 20800], input: &[u8]) -> Server
+fn run_from(s: Server, slots: &mut [usize; 192], memory: &mut [u8; 20800], input: &[u8]) -> Server
     requires { ⌜ 292 ≤ length (now input) ⌝ }
-    ensures { λ r. ⌜ serverOf r (now (memory .exit)) ≡ run (serverOf s (now (memory .entry))) (eventsIn (now (input .entry))) ⌝ }
+    ensures { λ r. ⌜ serverOf r (now (slots .exit)) (now (memory .exit)) ≡ run (serverOf s (now (slots .entry)) (now (memory .entry))) (eventsIn (now (input .entry))) ⌝ }
 {
     let mut out = [0u8; 284];
     let mut x = s;
     let mut at: usize = 292;
     let mut left = (input.len() - 292) / 292;
     while left > 0 {
-        let a = take::take(x, memory, octets::part_of(input, at, 292), &mut out);
+        let a = take::take(x, slots, memory, octets::part_of(input, at, 292), &mut out);
         x = a.server;
         at += 292;
         left -= 1;
@@ -29,13 +29,13 @@ fn run_from(s: Server, memory: &mut [u8; 20800], input: &[u8]) -> Server
 }
 
 // Demand 3 of the server and memory that any slice leaves.
-pub fn run(memory: &mut [u8; 20800], input: &[u8]) -> Answer
-    ensures { λ r. ⌜ Runs (now (input .entry)) (now (memory .entry)) (now (memory .exit)) r ⌝ }
+pub fn run(slots: &mut [usize; 192], memory: &mut [u8; 20800], input: &[u8]) -> Answer
+    ensures { λ r. ⌜ Runs (now (input .entry)) (now (slots .entry)) (now (slots .exit)) (now (memory .entry)) (now (memory .exit)) r ⌝ }
 {
-    let first = take::begin(memory, input);
+    let first = take::begin(slots, memory, input);
     let outcome = first.outcome;
     if !slots::answers::is_taken(outcome) {
         return first;
     }
-    answers::take(run_from(first.server, memory, input))
+    answers::take(run_from(first.server, slots, memory, input))
 }

@@ -6,7 +6,7 @@ ghost use lib.ListN.{length};
 ghost use Rattle.rules.specs.Events as rules;
 ghost use Rattle.server.specs.State.{DoesOut};
 ghost use Rattle.rules.specs.Replay as replay;
-ghost use Rattle.lines.specs.Lines.{noSettings, ownKindOf, Begins, Takes};
+ghost use Rattle.lines.specs.Lines.{noSettings, Untimed, Begins, Takes};
 use crate::record;
 use server::answers;
 use server::answers::Answer;
@@ -29,44 +29,51 @@ fn no_settings() -> Settings
 }
 
 // The first record: a server, if it is a whole record of settings that are accepted.
-pub fn begin(memory: &mut [u8; 20800], r: &[u8]) -> Answer
-    ensures { λ x. ⌜ Begins (now (r .entry)) (now (memory .entry)) (now (memory .exit)) x ⌝ }
+pub fn begin(slots: &mut [usize; 192], memory: &mut [u8; 20800], r: &[u8]) -> Answer
+    ensures { λ x. ⌜ Begins (now (r .entry)) (now (slots .entry)) (now (slots .exit)) (now (memory .entry)) (now (memory .exit)) x ⌝ }
 {
     if r.len() < 292 {
-        return events::start(no_settings(), memory);
+        return events::start(no_settings(), slots, memory);
     }
     if record::kind(r) != 0 {
-        return events::start(no_settings(), memory);
+        return events::start(no_settings(), slots, memory);
     }
-    events::start(record::settings(r), memory)
+    events::start(record::settings(r), slots, memory)
 }
 
 // A record of an event that writes nothing and has no time, or of none.
-fn take_own(s: Server, memory: &mut [u8; 20800], r: &[u8]) -> Answer
-    ensures { λ x. ⌜ ((out : List ℕ) → Takes (ownKindOf (now (r .entry))) s (now (memory .entry)) (now (memory .exit)) out out x) ⌝ }
+fn take_own(s: Server, slots: &mut [usize; 192], memory: &mut [u8; 20800], r: &[u8]) -> Answer
+    ensures { λ x. ⌜ ((out : List ℕ) → Untimed (now (r .entry)) → Takes (replay.kindOf (now (r .entry))) s (now (slots .entry)) (now (slots .exit)) (now (memory .entry)) (now (memory .exit)) out out x) ⌝ }
 {
     let kind = record::kind(r);
     if kind == 5 {
-        return events::set(s, memory, record::key(r), record::payload(r));
+        return events::set(s, slots, memory, record::key(r), record::payload(r));
     }
     if kind == 6 {
-        return events::withdraw(s, memory, record::key(r));
+        return events::withdraw(s, slots, memory, record::key(r));
     }
     if kind == 7 {
-        return events::purge(s, memory, record::key(r));
+        return events::purge(s, slots, memory, record::key(r));
     }
     if kind == 8 {
-        return events::add_peer(s, memory, record::slot(r), record::id(r));
+        return events::add_peer(s, slots, memory, record::slot(r), record::id(r));
     }
     answers::refuse(s, Failure::Size)
 }
 
-fn packet_in(s: Server, memory: &mut [u8; 20800], r: &[u8], out: &mut [u8]) -> Answer
+fn packet_in(
+    s: Server,
+    slots: &mut [usize; 192],
+    memory: &mut [u8; 20800],
+    r: &[u8],
+    out: &mut [u8],
+) -> Answer
     requires { ⌜ length (now out) ≡ 284 ⌝ }
-    ensures { λ x. ⌜ DoesOut (rules.packet (replay.slotIn (now (r .entry))) (replay.timeAt (now (r .entry))) (replay.packetIn (now (r .entry))) 284) s (now (memory .entry)) (now (memory .exit)) (now (out .entry)) (now (out .exit)) x ⌝ }
+    ensures { λ x. ⌜ DoesOut (rules.packet (replay.slotIn (now (r .entry))) (replay.timeAt (now (r .entry))) (replay.packetIn (now (r .entry))) 284) s (now (slots .entry)) (now (slots .exit)) (now (memory .entry)) (now (memory .exit)) (now (out .entry)) (now (out .exit)) x ⌝ }
 {
     events::packet(
         s,
+        slots,
         memory,
         record::slot(r),
         record::time(r),
@@ -75,29 +82,41 @@ fn packet_in(s: Server, memory: &mut [u8; 20800], r: &[u8], out: &mut [u8]) -> A
     )
 }
 
-fn poll_in(s: Server, memory: &mut [u8; 20800], r: &[u8], out: &mut [u8]) -> Answer
+fn poll_in(
+    s: Server,
+    slots: &mut [usize; 192],
+    memory: &mut [u8; 20800],
+    r: &[u8],
+    out: &mut [u8],
+) -> Answer
     requires { ⌜ length (now out) ≡ 284 ⌝ }
-    ensures { λ x. ⌜ DoesOut (rules.poll (replay.slotIn (now (r .entry))) (replay.timeAt (now (r .entry))) 284) s (now (memory .entry)) (now (memory .exit)) (now (out .entry)) (now (out .exit)) x ⌝ }
+    ensures { λ x. ⌜ DoesOut (rules.poll (replay.slotIn (now (r .entry))) (replay.timeAt (now (r .entry))) 284) s (now (slots .entry)) (now (slots .exit)) (now (memory .entry)) (now (memory .exit)) (now (out .entry)) (now (out .exit)) x ⌝ }
 {
-    events::poll(s, memory, record::slot(r), record::time(r), out)
+    events::poll(s, slots, memory, record::slot(r), record::time(r), out)
 }
 
 // A later record.
-pub fn take(s: Server, memory: &mut [u8; 20800], r: &[u8], out: &mut [u8; 284]) -> Answer
-    ensures { λ x. ⌜ Takes (replay.kindOf (now (r .entry))) s (now (memory .entry)) (now (memory .exit)) (now (out .entry)) (now (out .exit)) x ⌝ }
+pub fn take(
+    s: Server,
+    slots: &mut [usize; 192],
+    memory: &mut [u8; 20800],
+    r: &[u8],
+    out: &mut [u8; 284],
+) -> Answer
+    ensures { λ x. ⌜ Takes (replay.kindOf (now (r .entry))) s (now (slots .entry)) (now (slots .exit)) (now (memory .entry)) (now (memory .exit)) (now (out .entry)) (now (out .exit)) x ⌝ }
 {
     let kind = record::kind(r);
     if kind == 1 {
-        return events::link_up(s, memory, record::slot(r), record::time(r));
+        return events::link_up(s, slots, memory, record::slot(r), record::time(r));
     }
     if kind == 2 {
-        return events::link_down(s, memory, record::slot(r), record::time(r));
+        return events::link_down(s, slots, memory, record::slot(r), record::time(r));
     }
     if kind == 3 {
-        return packet_in(s, memory, r, out);
+        return packet_in(s, slots, memory, r, out);
     }
     if kind == 4 {
-        return poll_in(s, memory, r, out);
+        return poll_in(s, slots, memory, r, out);
     }
-    take_own(s, memory, r)
+    take_own(s, slots, memory, r)
 }

@@ -4,6 +4,7 @@ use Prim.Native.Nat.{ℕ, zero, suc, _+_, _-_, _*_, _/_, _%_, _≤_, _<_}
 use mathlib.Core.Path.{_≡_, refl, sym, ap, _∙_}
 use mathlib.Core.Bool.{Bool, true, false, not, _&&_, false≢true}
 use mathlib.Core.List.{List, [], _∷_}
+use mathlib.Core.Logic.{_⊎_, inl, inr}
 use native.Mathlib.Nat.{not-suc-le-zero}
 use native.Mathlib.Omega.{arith}
 use native.Mathlib.Decide.{ℕ-discrete}
@@ -23,8 +24,9 @@ use Rattle.rules.specs.Server.{slotsMost, rowsMost, Entry, Value, Row, free, us
 use Rattle.rules.specs.Rows.{isPurged, anySlot, sweptRow}
 use Rattle.memory.specs.Layout.{numberPlace, rowPlace, markPlace, listPlace, keptPlace}
 use Rattle.memory.specs.Memory.{entryAt, valueAt, isMarked, rowIn, rowsIn, requestIn, requestsIn, keptIn, memoryOf, withRows, freshMemory}
-use Rattle.memory.specs.Search.{withRow, goes}
-use Rattle.memory.proofs.RowPlaces.{row-get, used-row, free-row, octet-free}
+use Rattle.memory.specs.Search.{withRow, goes, SweptTo, SweepsFour}
+use Rattle.memory.proofs.RowPlaces.{row-get, used-row, free-row, octet-free, as-changed}
+use Rattle.memory.proofs.RowLoops.{changed-more}
 
 -- ---- no mark is an octet 0
 module _ (b : ℕ) (low : b < 256) where
@@ -144,16 +146,52 @@ module _ (s : List ℕ) (i : ℕ) where
       let e = free-row s i u in
       ap sweptRow e ∙ sym e
 
-  pub swept-stays : ((j : ℕ) → octet s j < 256) → (octet s (rowPlace i + numberPlace) ≡ 127 → ⊥) → sweptRow (rowIn s i) ≡ rowIn s i
+  swept-stays : ((j : ℕ) → octet s j < 256) → (octet s (rowPlace i + numberPlace) ≡ 127 → ⊥) → sweptRow (rowIn s i) ≡ rowIn s i
   swept-stays low n =
       let at = rowPlace i + numberPlace in
       stays-by (isUsed (rowIn s i)) refl
       (unpurged (field4 s at) (first-octet (octet s at) (octet s (at + 1)) (octet s (at + 2)) (octet s (at + 3)) (low (at + 1)) (low (at + 2)) (low (at + 3)) n))
 
--- a row put back as it is
-pub same-memory : (s : List ℕ) (i : ℕ) → i < rowsMost → memoryOf s ≡ withRow s i (rowIn s i)
+-- u is t with row i swept
+abbrev SweptAt : ℕ → List ℕ → List ℕ → Type 0
+SweptAt i t u = memoryOf u ≡ withRow t i (sweptRow (rowIn t i))
+
+-- a row that stays is put back as it is
+pub stays-put : (s : List ℕ) (i : ℕ) → i < rowsMost → sweptRow (rowIn s i) ≡ rowIn s i → SweptAt i s s
 unfolding memoryOf
-same-memory s i h = ap (λ z. withRows z (memoryOf s)) (sym (ap (set (rowsIn s) i) (sym (row-get s i h)) ∙ set-getD (rowsIn s) i free))
+stays-put s i h e =
+    ap (λ z. withRows z (memoryOf s)) (sym (ap (set (rowsIn s) i) (e ∙ sym (row-get s i h)) ∙ set-getD (rowsIn s) i free))
+
+-- ---- four rows
+swept-more : (i j : ℕ) (s t u : List ℕ) → i < rowsMost → j ≡ i + 1 → SweptAt i t u → SweptTo i s t → SweptTo j s u
+swept-more i j s t u h n g e = rw n (changed-more sweptRow s t i e u h (as-changed sweptRow t u i h g))
+
+pub swept-four : (i : ℕ) (t u v w x : List ℕ) → i + 4 ≤ rowsMost →
+    SweptAt i t u → SweptAt (i + 1) u v → SweptAt (i + 2) v w → SweptAt (i + 3) w x → SweepsFour i t x
+swept-four i t u v w x h a b c d s e =
+    let f = swept-more i (i + 1) s t u (omega arith) refl a e in
+    let g = swept-more (i + 1) (i + 2) s u v (omega arith) (omega arith) b f in
+    swept-more (i + 3) (i + 4) s w x (omega arith) (omega arith) d (swept-more (i + 2) (i + 3) s v w (omega arith) (omega arith) c g)
+
+-- none of the four numbers begins with 127
+module _ (s : List ℕ) (low : (j : ℕ) → octet s j < 256) where
+  stays-at : (i at : ℕ) → i < rowsMost → at ≡ rowPlace i + numberPlace → (octet s at ≡ 127 → ⊥) → SweptAt i s s
+  stays-at i at h p n = stays-put s i h (swept-stays s i low (λ e. n (ap (octet s) p ∙ e)))
+
+  pub four-stay : (i : ℕ) → i + 4 ≤ rowsMost →
+      let at : ℕ = rowPlace i + numberPlace in
+      (octet s at ≡ 127 → ⊥) → (octet s (at + 64) ≡ 127 → ⊥) → (octet s (at + 128) ≡ 127 → ⊥) → (octet s (at + 192) ≡ 127 → ⊥) → SweepsFour i s s
+  four-stay i h a b c d =
+      let at : ℕ = rowPlace i + numberPlace in
+      swept-four i s s s s s h (stays-at i at (omega arith) refl a)
+      (stays-at (i + 1) (at + 64) (omega arith) (omega arith) b)
+      (stays-at (i + 2) (at + 128) (omega arith) (omega arith) c)
+      (stays-at (i + 3) (at + 192) (omega arith) (omega arith) d)
+
+-- a returned `||` that is false, where its two ways have joined
+pub or-left : {T F : Type 0} {v a b : Bool} → (T × (v ≡ a)) ⊎ (F × (v ≡ b)) → (T → a ≡ true) → v ≡ false → F × (b ≡ false)
+or-left (inl w) t e = absurd (false≢true (sym e ∙ w .1 ∙ t (w .0)))
+or-left (inr w) t e = (w .0, sym (w .1) ∙ e)
 
 -- ---- zeros
 table-all : {A : Type 0} (f : ℕ → A) (x : A) → ((j : ℕ) → f j ≡ x) → (n i : ℕ) → table f n i ≡ replicate n x

@@ -3,8 +3,8 @@
 use Prim.Native.Nat.{ℕ, suc, _+_, _-_, _≤_}
 use mathlib.Core.Path.{_≡_}
 use mathlib.Core.Bool.{Bool, false, _&&_}
-use mathlib.Core.List.{List, [], _∷_, _++_}
-use lib.ListN.{length, take, replicate}
+use mathlib.Core.List.{List, [], _∷_, _++_, map}
+use lib.ListN.{length, take, drop, replicate}
 use lib.ListN as lists
 use Rattle.laws.specs.Choice.{pick}
 use Rattle.laws.specs.Lists.{part}
@@ -79,3 +79,11 @@ pub record Inserts (r : Row) (before after : List ℕ) (a : Inserted) : Type 0 w
 -- a row that the end of an event frees
 abbrev pub goes : Row → Bool
 goes r = isUsed r && isFree (sweptRow r)
+
+-- after is before with its first i rows swept
+abbrev pub SweptTo : ℕ → List ℕ → List ℕ → Type 0
+SweptTo i before after = memoryOf after ≡ withRows (map sweptRow (take i (rowsIn before)) ++ drop i (rowsIn before)) (memoryOf before)
+
+-- from s to t the sweep goes on by four rows
+abbrev pub SweepsFour : ℕ → List ℕ → List ℕ → Type 0
+SweepsFour i s t = (before : List ℕ) → SweptTo i before s → SweptTo (i + 4) before t

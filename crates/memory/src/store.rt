@@ -1,5 +1,6 @@
 // The rows put: by their octets, in the lowest free row, freed at the end of an event; and a fresh memory.
 ghost use mathlib.Core.Path.{_≡_};
+ghost use mathlib.Core.Bool.{false};
 ghost use Prim.Native.Nat.{_+_, _≤_, _<_};
 ghost use lib.ListN.{length};
 ghost use lib.ListN as lists;
@@ -11,7 +12,7 @@ ghost use Rattle.rules.specs.Rows.{isPurged, sweptRow, swept};
 ghost use Rattle.rules.specs.Updates.{value};
 ghost use Rattle.memory.specs.Layout.{rowSize, memorySize, rowPlace};
 ghost use Rattle.memory.specs.Memory.{isMarked, rowIn, rowsIn, memoryOf, withRows, freshMemory};
-ghost use Rattle.memory.specs.Search.{entry, withRow, revalued, padded, valueHead, rowHead, rowOctets, revaluedOctets, FitsRow, PutRow, Inserts, goes};
+ghost use Rattle.memory.specs.Search.{entry, withRow, revalued, padded, valueHead, rowHead, rowOctets, revaluedOctets, FitsRow, PutRow, Inserts, goes, SweepsFour};
 use crate::layout::MARKS_AT;
 use crate::layout::NUMBER_PLACE;
 use crate::layout::PAYLOAD_PLACE;
@@ -227,12 +228,33 @@ fn sweep_row(memory: &mut [u8], i: usize)
     requires { ⌜ (length (now memory) ≡ memorySize) × (i < rowsMost) ⌝ }
     ensures { λ _. ⌜ memoryOf (now (memory .exit)) ≡ withRow (now (memory .entry)) i (sweptRow (rowIn (now (memory .entry)) i)) ⌝ }
 {
-    // The first octet of 2147483647: almost every row passes here.
-    if memory[i * ROW_SIZE + NUMBER_PLACE] != 127 {
-        return;
-    }
     if is_gone(memory, i) {
         free_at(memory, i);
+    }
+}
+
+// Whether the number of one of four rows begins as 2147483647 does: almost always none, and all four are passed by at once.
+fn last_in_four(memory: &[u8], i: usize) -> bool
+    requires { ⌜ (length (now memory) ≡ memorySize) × (i + 4 ≤ rowsMost) ⌝ }
+    ensures { λ r. ⌜ (r ≡ false → SweepsFour i (now (memory .entry)) (now (memory .entry))) ⌝ }
+{
+    let at = i * ROW_SIZE + NUMBER_PLACE;
+    let a = memory[at];
+    let b = memory[at + ROW_SIZE];
+    let c = memory[at + 2 * ROW_SIZE];
+    let d = memory[at + 3 * ROW_SIZE];
+    a == 127 || b == 127 || c == 127 || d == 127
+}
+
+fn sweep_four(memory: &mut [u8], i: usize)
+    requires { ⌜ (length (now memory) ≡ memorySize) × (i + 4 ≤ rowsMost) ⌝ }
+    ensures { λ _. ⌜ SweepsFour i (now (memory .entry)) (now (memory .exit)) ⌝ }
+{
+    if last_in_four(memory, i) {
+        sweep_row(memory, i);
+        sweep_row(memory, i + 1);
+        sweep_row(memory, i + 2);
+        sweep_row(memory, i + 3);
     }
 }
 
@@ -242,8 +264,8 @@ pub fn sweep(memory: &mut [u8])
 {
     let mut i: usize = 0;
     while i < ROWS {
-        sweep_row(memory, i);
-        i += 1;
+        sweep_four(memory, i);
+        i += 4;
     }
 }
 

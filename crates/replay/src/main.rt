@@ -28,7 +28,13 @@ fn put_line(text: &mut [u8], at: usize, number: u64, a: Answer, memory: &[u8; 20
 }
 
 // The whole records of a chunk, their lines printed: the server after them.
-fn chunk(s: Server, memory: &mut [u8; 20800], input: &[u8], number: u64) -> Server
+fn chunk(
+    s: Server,
+    slots: &mut [usize; 192],
+    memory: &mut [u8; 20800],
+    input: &[u8],
+    number: u64,
+) -> Server
     requires { ⌜ length (now input) ≤ 65536 ⌝ }
 {
     let mut text = [0u8; 20480];
@@ -39,7 +45,7 @@ fn chunk(s: Server, memory: &mut [u8; 20800], input: &[u8], number: u64) -> Serv
     let mut left = input.len() / 292;
     let mut n = number;
     while left > 0 {
-        let a = lines::take::take(x, memory, octets::part_of(input, at, 292), &mut out);
+        let a = lines::take::take(x, slots, memory, octets::part_of(input, at, 292), &mut out);
         filled = put_line(&mut text, filled, n, a, memory);
         x = a.server;
         at += 292;
@@ -51,7 +57,7 @@ fn chunk(s: Server, memory: &mut [u8; 20800], input: &[u8], number: u64) -> Serv
 }
 
 // The records behind the first, a chunk at a time.
-fn rest(s: Server, memory: &mut [u8; 20800], input: &mut [u8])
+fn rest(s: Server, slots: &mut [usize; 192], memory: &mut [u8; 20800], input: &mut [u8])
     requires { ⌜ length (now input) ≡ 65408 ⌝ }
 {
     let mut x = s;
@@ -59,7 +65,7 @@ fn rest(s: Server, memory: &mut [u8; 20800], input: &mut [u8])
     let mut turns = u64::MAX;
     while turns > 0 {
         let n = io::read_full(0, input);
-        x = chunk(x, memory, octets::first(input, n), number);
+        x = chunk(x, slots, memory, octets::first(input, n), number);
         number = std::num::wrapping_add_u64(number, 224);
         if n < CHUNK {
             if n % 292 != 0 {
@@ -72,10 +78,11 @@ fn rest(s: Server, memory: &mut [u8; 20800], input: &mut [u8])
 }
 
 fn main() {
+    let mut slots = [0usize; 192];
     let mut memory = [0u8; 20800];
     let mut input = [0u8; 292];
     let n = io::read_full(0, &mut input);
-    let first = lines::take::begin(&mut memory, octets::first(&input, n));
+    let first = lines::take::begin(&mut slots, &mut memory, octets::first(&input, n));
     let outcome = first.outcome;
     if !slots::answers::is_taken(outcome) {
         cut();
@@ -83,5 +90,5 @@ fn main() {
     }
     io::write_all(1, &[48u8, 32, 48, 32, 48, 32, 48, 10]);
     let mut space = [0u8; CHUNK];
-    rest(first.server, &mut memory, &mut space);
+    rest(first.server, &mut slots, &mut memory, &mut space);
 }

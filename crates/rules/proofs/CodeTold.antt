@@ -17,9 +17,9 @@ use Rattle.protocol.specs.Sizes.{idLength}
 use Rattle.protocol.specs.Messages.{Message}
 use Rattle.protocol.specs.Answers.{firstCode}
 use Rattle.protocol.specs.Reading.{message, readPacket}
-use Rattle.rules.specs.Server.{slotsMost, Settings, settingsCode, Entry, isFree, holds, Server, slotAt}
+use Rattle.rules.specs.Server.{slotsMost, Settings, settingsCode, Row, isFree, Server, slotAt}
 use Rattle.rules.specs.Links.{isLive, isPast}
-use Rattle.rules.specs.Refusals.{orElse, early, noRoom, linkIsDown, pollCode, isHello, unusable, messageCode, isPeer, addPeerCode, keyGood, payloadGood, ownEntry, holdsSpent, holdsPurged, holdsEmpty, setCode, withdrawCode, purgeCode}
+use Rattle.rules.specs.Refusals.{orElse, early, noRoom, linkIsDown, pollCode, isHello, unusable, messageCode, isPeer, addPeerCode, keyGood, payloadGood, ownEntry, firstRow, rowSpent, rowPurged, rowEmpty, setCode, withdrawCode, purgeCode}
 use Rattle.rules.specs.Events.{packet, codeOf, counts}
 
 -- the first of some refusals does not hold where their code is 0, and the code of the others is 0
@@ -61,23 +61,20 @@ poll-told s k now room h =
 
 -- ---- changes of ours: key and payload are good, and the entry's number is not spent, or not that of a purge
 module _ (s : Server) (key : List ℕ) where
-  abbrev ours : Entry
-  ours = ownEntry (s .settings) key
+  abbrev ours : Row
+  ours = firstRow (ownEntry (s .settings) key) (s .rows)
 
-  pub set-told : (p : List ℕ) → eqb (setCode s key p) 0 ≡ true → ((keyGood key ≡ true) × (payloadGood p ≡ true)) × (has (holdsSpent ours) (s .rows) ≡ false)
+  pub set-told : (p : List ℕ) → eqb (setCode s key p) 0 ≡ true → ((keyGood key ≡ true) × (payloadGood p ≡ true)) × (rowSpent ours ≡ false)
   set-told p h =
-      let f = no-three (not (keyGood key && payloadGood p)) (has (holdsSpent ours) (s .rows))
-      (not (has (holds ours) (s .rows)) && not (has isFree (s .rows))) 16 15 14 (eqb-true (setCode s key p) 0 h) in
+      let f = no-three (not (keyGood key && payloadGood p)) (rowSpent ours) (isFree ours && not (has isFree (s .rows)))
+      16 15 14 (eqb-true (setCode s key p) 0 h) in
       (and-true (keyGood key) (payloadGood p) (not-false (keyGood key && payloadGood p) (f .0)), f .1)
 
-  pub withdraw-told : eqb (withdrawCode s key) 0 ≡ true → has (holdsSpent ours) (s .rows) ≡ false
-  withdraw-told h =
-      no-three (not (keyGood key)) (not (has (holds ours) (s .rows)) || has (holdsEmpty ours) (s .rows)) (has (holdsSpent ours) (s .rows))
-      16 17 15 (eqb-true (withdrawCode s key) 0 h) .2
+  pub withdraw-told : eqb (withdrawCode s key) 0 ≡ true → rowSpent ours ≡ false
+  withdraw-told h = no-three (not (keyGood key)) (rowEmpty ours) (rowSpent ours) 16 17 15 (eqb-true (withdrawCode s key) 0 h) .2
 
-  pub purge-told : eqb (purgeCode s key) 0 ≡ true → has (holdsPurged ours) (s .rows) ≡ false
-  purge-told h =
-      no-three (not (keyGood key)) (not (has (holds ours) (s .rows))) (has (holdsPurged ours) (s .rows)) 16 17 15 (eqb-true (purgeCode s key) 0 h) .2
+  pub purge-told : eqb (purgeCode s key) 0 ≡ true → rowPurged ours ≡ false
+  purge-told h = no-three (not (keyGood key)) (isFree ours) (rowPurged ours) 16 17 15 (eqb-true (purgeCode s key) 0 h) .2
 
 -- ---- a message is usable in its slot
 pub message-told : (s : Server) (k now : ℕ) (p : List ℕ) (room : ℕ) (m : Message) → readPacket idLength p ≡ message m

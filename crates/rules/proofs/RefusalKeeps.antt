@@ -29,7 +29,7 @@ use Rattle.rules.specs.Slots.{moved, withLink, emptied}
 use Rattle.rules.specs.Packets.{slotMalformed}
 use Rattle.rules.specs.Refusals.{orElse, noPeer, early, noRoom, linkIsDown, pollCode, readingCode, isMalformedHello}
 use Rattle.rules.specs.Events.{Event, addPeer, linkUp, linkDown, packet, poll, set, withdraw, purge, codeOf, counts, acted, step, writtenAt, liveIn, readSlot}
-use Rattle.rules.proofs.Stated.{none-stated, first-most, slotMissing, slotAbove, peerBad, keyBad, setBad, numberSpent, alreadyPurged, absent, alreadyEmpty, noFreeRow}
+use Rattle.rules.proofs.Stated.{none-stated, first-most, slotMissing, slotAbove, peerBad, keyBad, setBad, numberSpent, alreadyPurged, absent, absentOrEmpty, noFreeRow}
 use Rattle.rules.proofs.StatedPacket.{messageRefusals, refused-most, packet-codes}
 
 -- ---- no code is above 18
@@ -57,7 +57,7 @@ every-code s (set key payload) =
     first-most 18 (refuse (setBad key payload) 17 ∷ refuse (numberSpent s key) 16 ∷ refuse (absent s key && noFreeRow s) 15 ∷ [])
     (omega arith, (omega arith, (omega arith, tt)))
 every-code s (withdraw key) =
-    first-most 18 (refuse (keyBad key) 17 ∷ refuse (absent s key || alreadyEmpty s key) 18 ∷ refuse (numberSpent s key) 16 ∷ [])
+    first-most 18 (refuse (keyBad key) 17 ∷ refuse (absentOrEmpty s key) 18 ∷ refuse (numberSpent s key) 16 ∷ [])
     (omega arith, (omega arith, (omega arith, tt)))
 every-code s (purge key) =
     first-most 18 (refuse (keyBad key) 17 ∷ refuse (absent s key) 18 ∷ refuse (alreadyPurged s key) 16 ∷ [])

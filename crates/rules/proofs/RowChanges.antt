@@ -9,16 +9,16 @@ use Rattle.laws.specs.Lists.{All}
 use Rattle.laws.specs.Tables.{has, change, update}
 use Rattle.laws.proofs.Tables.{full}
 use Rattle.laws.proofs.Bools.{and-true, and-tells}
-use Rattle.laws.proofs.Cells.{has-false, one-tells}
+use Rattle.laws.proofs.Cells.{one-found, one-tells}
 use Rattle.protocol.specs.declared.CsaNumber.{CsaNumber}
-use Rattle.protocol.specs.Numbers.{newer, spent}
+use Rattle.protocol.specs.Numbers.{newer}
 use Rattle.protocol.specs.Messages.{CsaRecord}
 use Rattle.rules.specs.Server.{Entry, sameEntry, Row, free, used, isFree, holds, rowAt, Request}
 use Rattle.rules.specs.Rows.{isPurged, unmarked, filled}
 use Rattle.rules.specs.Requests.{entryOf}
 use Rattle.rules.specs.Updates.{changedRow, setRows, purgedRow, purgeRows, null, purgeAbsent, full as noRow, stored, equal, older, outOfDate, ahead, updateRule, rowFor, renewed, owed, rowsBy, Updated, byRule, allUpdated, replied, allReplied}
 use Rattle.rules.specs.Packets.{updatedBy}
-use Rattle.rules.specs.Refusals.{holdsSpent, holdsPurged}
+use Rattle.rules.specs.Refusals.{firstRow, rowSpent, rowPurged}
 use Rattle.rules.specs.History.{Known, nowHeld, isOf, admit, opened, arrived, noted, allNoted, answered, allAnswered, changed, created, purging}
 use Rattle.rules.specs.Demand3.{rowOf}
 use Rattle.rules.proofs.Relation.{Alive, RowsInv, Sim}
@@ -116,22 +116,24 @@ sim-answered live k (r ∷ rs) rows es v s =
 
 -- ---- changes of ours
 module _ (live : ℕ → Bool) (e : Entry) (rows : List Row) (es : List Known) (v : RowsInv live rows) (s : Sim rows es) where
-  -- a set of an entry that has a row, and a withdrawal
-  pub sim-withdraw : (p : List ℕ) → has (holdsSpent e) rows ≡ false → Sim (change (holds e) (changedRow live p) rows) (update (isOf e) (changed live p) es)
-  sim-withdraw p n =
-      sim-change e (λ x. Alive live x × (holdsSpent e x ≡ false)) (changedRow live p) (changed live p) (alike-changed live p)
-      (λ x q h. changed-of live p x (q .0) (and-tells (isOf e x) (spent (nowHeld x .number)) false h (q .1)))
-      rows es (λ i. (v .alive i, has-false free (holdsSpent e) refl rows n i)) (v .once) s
+  -- a change of the row of e, where that row fails a test: the first row that holds e is the only one
+  sim-own : (t : Row → Bool) (f : Row → Row) (g : Known → Known) → ((x : Row) → Alike x (f x))
+      → ((x : Known) → Alive live (rowOf x) → t (rowOf x) ≡ false → f (rowOf x) ≡ rowOf (g x)) → t (firstRow e rows) ≡ false
+      → Sim (change (holds e) f rows) (update (isOf e) g es)
+  sim-own t f g keeps of n =
+      sim-change e (λ x. Alive live x × (holds e x ≡ true → t x ≡ false)) f g keeps (λ x q h. of x (q .0) (q .1 h))
+      rows es (λ i. (v .alive i, λ h. ap t (sym (one-found free (holds e) rows (v .once e) i h)) ∙ n)) (v .once) s
 
-  pub sim-set : (p : List ℕ) → has (holdsSpent e) rows ≡ false
+  -- a set of an entry that has a row, and a withdrawal
+  pub sim-withdraw : (p : List ℕ) → rowSpent (firstRow e rows) ≡ false → Sim (change (holds e) (changedRow live p) rows) (update (isOf e) (changed live p) es)
+  sim-withdraw p n = sim-own rowSpent (changedRow live p) (changed live p) (alike-changed live p) (changed-of live p) n
+
+  pub sim-set : (p : List ℕ) → rowSpent (firstRow e rows) ≡ false
       → Sim (setRows live e p rows) (pick (has (isOf e) es) (update (isOf e) (changed live p) es) (admit (created live e p) es))
   sim-set p n =
       rw (sim-holds e rows es s)
       (sim-pick (has (isOf e) es) _ _ _ _ (sim-withdraw p n)
       (rw (created-of live e p) (sim-admit (created live e p) rows es (v .size) s)))
 
-  pub sim-purge : has (holdsPurged e) rows ≡ false → Sim (purgeRows live e rows) (update (isOf e) (purging live) es)
-  sim-purge n =
-      sim-change e (λ x. Alive live x × (holdsPurged e x ≡ false)) (purgedRow live) (purging live) (alike-purged live)
-      (λ x q h. purging-of live x (q .0) (and-tells (isOf e x) (isPurged (nowHeld x .number)) false h (q .1)))
-      rows es (λ i. (v .alive i, has-false free (holdsPurged e) refl rows n i)) (v .once) s
+  pub sim-purge : rowPurged (firstRow e rows) ≡ false → Sim (purgeRows live e rows) (update (isOf e) (purging live) es)
+  sim-purge n = sim-own rowPurged (purgedRow live) (purging live) (alike-purged live) (purging-of live) n

@@ -15,8 +15,8 @@ use Rattle.laws.specs.Lists.{All}
 use Rattle.laws.specs.Tables.{has, same}
 use Rattle.protocol.specs.Sizes.{idLength}
 use Rattle.protocol.specs.Answers.{Refusal, refuse, firstCode}
-use Rattle.rules.specs.Server.{slotsMost, isFree, holds, Server, slotAt}
-use Rattle.rules.specs.Refusals.{noPeer, early, noRoom, linkIsDown, linkCode, isPeer, keyGood, payloadGood, ownEntry, holdsSpent, holdsPurged, holdsEmpty}
+use Rattle.rules.specs.Server.{slotsMost, isFree, Server, slotAt}
+use Rattle.rules.specs.Refusals.{noPeer, early, noRoom, linkIsDown, linkCode, isPeer, keyGood, payloadGood, ownEntry, firstRow, rowSpent, rowPurged, rowEmpty}
 use Rattle.rules.specs.Events.{addPeer, linkUp, linkDown, poll, set, withdraw, purge, codeOf}
 
 -- ---- over a list of refusals
@@ -189,16 +189,16 @@ abbrev pub setBad : List ℕ → List ℕ → Bool
 setBad key payload = not (keyGood key && payloadGood payload)
 
 abbrev pub numberSpent : Server → List ℕ → Bool
-numberSpent s key = has (holdsSpent (ownEntry (s .settings) key)) (s .rows)
+numberSpent s key = rowSpent (firstRow (ownEntry (s .settings) key) (s .rows))
 
 abbrev pub alreadyPurged : Server → List ℕ → Bool
-alreadyPurged s key = has (holdsPurged (ownEntry (s .settings) key)) (s .rows)
+alreadyPurged s key = rowPurged (firstRow (ownEntry (s .settings) key) (s .rows))
 
 abbrev pub absent : Server → List ℕ → Bool
-absent s key = not (has (holds (ownEntry (s .settings) key)) (s .rows))
+absent s key = isFree (firstRow (ownEntry (s .settings) key) (s .rows))
 
-abbrev pub alreadyEmpty : Server → List ℕ → Bool
-alreadyEmpty s key = has (holdsEmpty (ownEntry (s .settings) key)) (s .rows)
+abbrev pub absentOrEmpty : Server → List ℕ → Bool
+absentOrEmpty s key = rowEmpty (firstRow (ownEntry (s .settings) key) (s .rows))
 
 abbrev pub noFreeRow : Server → Bool
 noFreeRow s = not (has isFree (s .rows))
@@ -224,16 +224,16 @@ set-codes s key payload =
 
 pub record WithdrawCodes (s : Server) (key : List ℕ) : Type 0 where
   pub code-17 : (codeOf s (withdraw key) ≡ 17) ↔ (keyBad key ≡ true)
-  pub code-18 : (codeOf s (withdraw key) ≡ 18) ↔ ((keyBad key ≡ false) × ((absent s key || alreadyEmpty s key) ≡ true))
+  pub code-18 : (codeOf s (withdraw key) ≡ 18) ↔ ((keyBad key ≡ false) × (absentOrEmpty s key ≡ true))
   pub code-16 : (codeOf s (withdraw key) ≡ 16)
-      ↔ ((keyBad key ≡ false) × (((absent s key || alreadyEmpty s key) ≡ false) × (numberSpent s key ≡ true)))
+      ↔ ((keyBad key ≡ false) × ((absentOrEmpty s key ≡ false) × (numberSpent s key ≡ true)))
   pub code-0 : (codeOf s (withdraw key) ≡ 0)
-      ↔ NoCase (refuse (keyBad key) 17 ∷ refuse (absent s key || alreadyEmpty s key) 18 ∷ refuse (numberSpent s key) 16 ∷ [])
+      ↔ NoCase (refuse (keyBad key) 17 ∷ refuse (absentOrEmpty s key) 18 ∷ refuse (numberSpent s key) 16 ∷ [])
 
 pub withdraw-codes : (s : Server) (key : List ℕ) → WithdrawCodes s key
 unfolding codeOf
 withdraw-codes s key =
-    let rs : List Refusal = refuse (keyBad key) 17 ∷ refuse (absent s key || alreadyEmpty s key) 18 ∷ refuse (numberSpent s key) 16 ∷ [] in
+    let rs : List Refusal = refuse (keyBad key) 17 ∷ refuse (absentOrEmpty s key) 18 ∷ refuse (numberSpent s key) 16 ∷ [] in
     record {
       code-17 = stated rs refl 0 (omega arith);
       code-18 = stated rs refl 1 (omega arith);

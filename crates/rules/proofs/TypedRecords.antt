@@ -41,14 +41,15 @@ raised-good n h q g = record { entry = g .entry; number = pick-of GoodNumber (ne
 
 join-good : (e : Entry) (n : CsaNumber) (w : Wanted) → GoodEntry e → GoodNumber n → GoodWanted w → GoodWanted (join e n w)
 join-good e n w he hn g =
+    let q : Request = record { entry = e; number = n } in
     pick-of GoodWanted (has (asks e) (w .requests)) (record { requests = change (asks e) (raised n) (w .requests); missed = w .missed })
-    (pick (ltb (length (w .requests)) requestsMost) (record { requests = w .requests ++ (record { entry = e; number = n } ∷ []); missed = w .missed })
+    (pick (ltb (length (w .requests)) requestsMost) (record { requests = w .requests ++ (q ∷ []); missed = w .missed })
     (record { requests = w .requests; missed = pick (ltb (w .missed) 65535) (suc (w .missed)) (w .missed) }))
-    (all-change GoodRequest GoodRequest (asks e) (raised n) (λ q t. raised-good n hn q) (λ q t. t) (w .requests) g)
+    (all-change GoodRequest (asks e) (raised n) q (w .requests) (raised-good n hn (find (asks e) q (w .requests))) g)
     (pick-of GoodWanted (ltb (length (w .requests)) requestsMost)
-    (record { requests = w .requests ++ (record { entry = e; number = n } ∷ []); missed = w .missed })
+    (record { requests = w .requests ++ (q ∷ []); missed = w .missed })
     (record { requests = w .requests; missed = pick (ltb (w .missed) 65535) (suc (w .missed)) (w .missed) })
-    (all-append GoodRequest (w .requests) (record { entry = e; number = n } ∷ []) g (record { entry = he; number = hn }, tt)) g)
+    (all-append GoodRequest (w .requests) (q ∷ []) g (record { entry = he; number = hn }, tt)) g)
 
 number-of : (k : Kind) (r : CsaRecord) → GoodRecord idLength k r → GoodNumber (r .number)
 number-of k r g = record { fits = g .number-fits; not-reserved = g .not-reserved }

@@ -12,7 +12,7 @@ use lib.Signed.{leZ}
 use borrow.Author.Tests.{ltb-true, leb-false, lt-ltb}
 use Rattle.laws.specs.Choice.{pick}
 use Rattle.laws.specs.Lists.{All}
-use Rattle.laws.specs.Tables.{on, has, change}
+use Rattle.laws.specs.Tables.{on, has, find, change}
 use Rattle.protocol.specs.declared.CsaNumber.{CsaNumber}
 use Rattle.protocol.specs.declared.Kind.the-variants.{CsuRequest}
 use Rattle.protocol.specs.declared.Step.the-variants.{Number, Spent}
@@ -24,8 +24,8 @@ use Rattle.rules.specs.Server.{Entry, Value, Row, free, used, isFree, ho
 use Rattle.rules.specs.Rows.{isPurged, anySlot, unmarked, spread, filled, sweptRow, swept, clearedIf}
 use Rattle.rules.specs.Requests.{entryOf}
 use Rattle.rules.specs.Updates.{hopsMost, value, stepped, changedRow, newRow, setRows, withdrawRows, purgedRow, purgeRows, UpdateRule, null, purgeAbsent, full, stored, equal, older, valueOf, rowFor, renewed, owed, rowsBy, replied, allReplied}
-use Rattle.rules.specs.Refusals.{holdsSpent}
-use Rattle.laws.proofs.Each.{all-map, all-change, all-none}
+use Rattle.rules.specs.Refusals.{firstRow, rowSpent}
+use Rattle.laws.proofs.Each.{all-map, all-change}
 use Rattle.laws.proofs.Bools.{pick-of}
 use Rattle.rules.proofs.Typed.{GoodEntry, GoodNumber, GoodRow, TypedRow}
 
@@ -113,11 +113,10 @@ withdrawn-typed live free g = tt
 withdrawn-typed live (used e v m) g = changed-good live [] e v m (omega arith) (λ at. omega arith) (λ h. refl) g
 
 -- the row that a set changes is not spent
-set-typed : (live : ℕ → Bool) (f : Entry) (payload : List ℕ) → length payload ≤ payloadMost → Octets payload → (r : Row) → holds f r ≡ true
-    → (holdsSpent f r ≡ false) × TypedRow r → TypedRow (changedRow live payload r)
-set-typed live f payload l o free h g = tt
-set-typed live f payload l o (used e v m) h g =
-    changed-good live payload e v m l o (λ p. absurd (stepped-not-purged (v .number) (rw h at (g .0)) p)) (g .1)
+set-typed : (live : ℕ → Bool) (payload : List ℕ) → length payload ≤ payloadMost → Octets payload → (r : Row) → rowSpent r ≡ false → TypedRow r
+    → TypedRow (changedRow live payload r)
+set-typed live payload l o free n g = tt
+set-typed live payload l o (used e v m) n g = changed-good live payload e v m l o (λ p. absurd (stepped-not-purged (v .number) n p)) g
 
 purged-typed : (live : ℕ → Bool) (r : Row) → TypedRow r → TypedRow (purgedRow live r)
 purged-typed live free g = tt
@@ -194,7 +193,7 @@ abbrev pub TypedRows : List Row → Type 0
 TypedRows rows = All TypedRow rows
 
 changing : (p : Row → Bool) (f : Row → Row) → ((r : Row) → TypedRow r → TypedRow (f r)) → (rows : List Row) → TypedRows rows → TypedRows (change p f rows)
-changing p f h rows g = all-change TypedRow TypedRow p f (λ r e. h r) (λ r t. t) rows g
+changing p f h rows g = all-change TypedRow p f free rows (h (find p free rows)) g
 
 filling : (r : Row) → TypedRow r → (rows : List Row) → TypedRows rows → TypedRows (filled r rows)
 filling r t rows g = changing isFree (λ x. r) (λ x h. t) rows g
@@ -207,11 +206,10 @@ cleared-all true k rows g = all-map TypedRow TypedRow (unmarked k) (unmarked-typ
 cleared-all false k rows g = g
 
 pub set-all : (live : ℕ → Bool) (e : Entry) (payload : List ℕ) (rows : List Row) → GoodEntry e → length payload ≤ payloadMost → Octets payload
-    → has (holdsSpent e) rows ≡ false → TypedRows rows → TypedRows (setRows live e payload rows)
+    → rowSpent (firstRow e rows) ≡ false → TypedRows rows → TypedRows (setRows live e payload rows)
 set-all live e payload rows ge l o n g =
     pick-of TypedRows (has (holds e) rows) (change (holds e) (changedRow live payload) rows) (filled (newRow live e payload) rows)
-    (all-change (λ r. (holdsSpent e r ≡ false) × TypedRow r) TypedRow (holds e) (changedRow live payload) (set-typed live e payload l o) (λ r t. t .1)
-    rows (all-none TypedRow (holdsSpent e) rows n g))
+    (all-change TypedRow (holds e) (changedRow live payload) free rows (set-typed live payload l o (firstRow e rows) n) g)
     (filling (newRow live e payload) (new-typed live e payload ge l o) rows g)
 
 pub withdraw-all : (live : ℕ → Bool) (e : Entry) (rows : List Row) → TypedRows rows → TypedRows (withdrawRows live e rows)

@@ -7,15 +7,14 @@ use lib.Dec.{eqb, ltb, leb}
 use lib.ListN.{length}
 use Rattle.laws.specs.Choice.{pick}
 use Rattle.laws.specs.Lists.{isEmpty}
-use Rattle.laws.specs.Tables.{has, same}
-use Rattle.protocol.specs.declared.CsaNumber.{CsaNumber}
+use Rattle.laws.specs.Tables.{has, find, same}
 use Rattle.protocol.specs.Sizes.{idLength, keyMost, payloadMost, packetMost}
 use Rattle.protocol.specs.Fields.{octet}
 use Rattle.protocol.specs.Numbers.{spent}
 use Rattle.protocol.specs.Messages.{Message, Body, ca, csuRequest, csuReply, csus, hello}
 use Rattle.protocol.specs.Answers.{Refusal, refuse, firstCode}
 use Rattle.protocol.specs.Reading.{Reading, refused, malformed, message, readPacket}
-use Rattle.rules.specs.Server.{slotsMost, Settings, Entry, sameEntry, Value, Row, free, used, isFree, holds, Slot, Server, slotAt}
+use Rattle.rules.specs.Server.{slotsMost, Settings, Entry, Row, free, used, isFree, holds, Slot, Server, slotAt}
 use Rattle.rules.specs.Links as links
 use Rattle.rules.specs.Links.{CaRule, isDown, isPast}
 use Rattle.rules.specs.Rows.{isPurged}
@@ -122,42 +121,44 @@ payloadGood p = ltb 0 (length p) && leb (length p) payloadMost
 abbrev pub ownEntry : Settings → List ℕ → Entry
 ownEntry s key = record { key = key; originator = s .id }
 
+-- the first row that holds an entry, free where none does
+abbrev pub firstRow : Entry → List Row → Row
+firstRow e rows = find (holds e) free rows
+
 -- 'the number is 2147483646 or more'
-abbrev pub holdsSpent : Entry → Row → Bool
-holdsSpent e free = false
-holdsSpent e (used f v m) = sameEntry f e && spent (v .number)
+abbrev pub rowSpent : Row → Bool
+rowSpent free = false
+rowSpent (used e v m) = spent (v .number)
 
-abbrev pub holdsPurged : Entry → Row → Bool
-holdsPurged e free = false
-holdsPurged e (used f v m) = sameEntry f e && isPurged (v .number)
+abbrev pub rowPurged : Row → Bool
+rowPurged free = false
+rowPurged (used e v m) = isPurged (v .number)
 
--- 'already empty'
-abbrev pub holdsEmpty : Entry → Row → Bool
-holdsEmpty e free = false
-holdsEmpty e (used f v m) = sameEntry f e && isEmpty (v .payload)
+-- 'absent or already empty'
+abbrev pub rowEmpty : Row → Bool
+rowEmpty free = true
+rowEmpty (used e v m) = isEmpty (v .payload)
 
 abbrev pub setCode : Server → List ℕ → List ℕ → ℕ
 setCode s key payload =
     firstCode
     (refuse (not (keyGood key && payloadGood payload)) 17
-    ∷ refuse (has (holdsSpent (ownEntry (s .settings) key)) (s .rows)) 16
-    ∷ refuse (not (has (holds (ownEntry (s .settings) key)) (s .rows)) && not (has isFree (s .rows))) 15
+    ∷ refuse (rowSpent (firstRow (ownEntry (s .settings) key) (s .rows))) 16
+    ∷ refuse (isFree (firstRow (ownEntry (s .settings) key) (s .rows)) && not (has isFree (s .rows))) 15
     ∷ [])
 
 abbrev pub withdrawCode : Server → List ℕ → ℕ
 withdrawCode s key =
     firstCode
     (refuse (not (keyGood key)) 17
-    ∷ refuse
-    (not (has (holds (ownEntry (s .settings) key)) (s .rows)) || has (holdsEmpty (ownEntry (s .settings) key)) (s .rows))
-    18
-    ∷ refuse (has (holdsSpent (ownEntry (s .settings) key)) (s .rows)) 16
+    ∷ refuse (rowEmpty (firstRow (ownEntry (s .settings) key) (s .rows))) 18
+    ∷ refuse (rowSpent (firstRow (ownEntry (s .settings) key) (s .rows))) 16
     ∷ [])
 
 abbrev pub purgeCode : Server → List ℕ → ℕ
 purgeCode s key =
     firstCode
     (refuse (not (keyGood key)) 17
-    ∷ refuse (not (has (holds (ownEntry (s .settings) key)) (s .rows))) 18
-    ∷ refuse (has (holdsPurged (ownEntry (s .settings) key)) (s .rows)) 16
+    ∷ refuse (isFree (firstRow (ownEntry (s .settings) key) (s .rows))) 18
+    ∷ refuse (rowPurged (firstRow (ownEntry (s .settings) key) (s .rows))) 16
     ∷ [])

@@ -4,7 +4,7 @@ use Prim.Native.Nat.{ℕ, _<_}
 use mathlib.Core.Path.{_≡_, refl, sym, ap, _∙_, subst}
 use mathlib.Core.Bool.{Bool, true, false}
 use mathlib.Core.List.{List, []}
-use lib.ListN.{getD, length}
+use lib.ListN.{length}
 use Rattle.laws.specs.Choice.{pick}
 use Rattle.protocol.specs.declared.Alignment.{Alignment}
 use Rattle.protocol.specs.declared.Alignment.the-variants.{Down, Negotiate, Summarize, Update, Aligned}
@@ -25,11 +25,12 @@ use Rattle.slots.specs.declared.answers.Outcome.{Outcome}
 use Rattle.slots.specs.declared.answers.Outcome.the-variants.{Taken}
 use Rattle.slots.specs.Codes.{codeNumber}
 use Rattle.slots.specs.State.{slotOf}
+use Rattle.table.specs.Words.{slotIn}
 use Rattle.actions.specs.declared.parts.Acted.{Acted}
 use Rattle.actions.specs.Parts.{slotWith, Leaves, Moves}
 use Rattle.actions.proofs.PartLaws.{leaves-struct, leaves-as, leaves-same}
 use Rattle.server.specs.declared.answers.Answer.{Answer}
-use Rattle.server.specs.State.{zeroSlot, serverOf, Does, Ends}
+use Rattle.server.specs.State.{serverOf, Does, Ends}
 use Rattle.server.specs.Events.{Ups}
 use Rattle.server.proofs.ServerLaws.{LeavesBy, ends-acted}
 use Rattle.server.proofs.DoesLaws.{does-taken}
@@ -73,11 +74,12 @@ module _ (k : ℕ) (x : Slot) (before : List ℕ) where
       leaves-as m (moved l was) (cleared (moved l was .link)) refl (ap cleared (sym (moved-link l was)))
 
 -- ---- the whole, of an event in a slot that writes nothing
-pub does-silent : (e : Event) (s : Server) (k now : ℕ) (x y : Slot) (before mid after : List ℕ) (o : Outcome) (a : Acted) (r : Answer) → k < 8
-    → placeOf e ≡ inSlot k → now ≡ timeAfter e (s .time) → octetsOf (sentBy (serverOf s before) e) ≡ []
-    → codeNumber o ≡ codeOf (serverOf s before) e → o ≡ Taken → x ≡ getD (s .slots) k zeroSlot
-    → LeavesBy e s k x before mid y → a ≡ record { slot = y; written = 0 } → Ends s k now a mid after r → Does e s before after r
-does-silent e s k now x y before mid after o a r h p t n c u q l b w =
-    let m : LeavesBy e s k x before mid (a .slot) = subst (λ (z : Acted). LeavesBy e s k x before mid (z .slot)) (sym b) l in
-    does-taken e s before o after r c u (w .outcome) (ends-acted s before mid e k x q after now a r h p t m w)
+pub does-silent : (e : Event) (s : Server) (slots slots′ : List ℕ) (k now : ℕ) (x y : Slot) (before mid after : List ℕ) (o : Outcome) (a : Acted) (r : Answer) → k < 8
+    → placeOf e ≡ inSlot k → now ≡ timeAfter e (s .time) → octetsOf (sentBy (serverOf s slots before) e) ≡ []
+    → codeNumber o ≡ codeOf (serverOf s slots before) e → o ≡ Taken → x ≡ slotIn slots k
+    → LeavesBy e s slots k x before mid y → a ≡ record { slot = y; written = 0 } → Ends s slots slots′ k now a mid after r
+    → Does e s slots slots′ before after r
+does-silent e s slots slots′ k now x y before mid after o a r h p t n c u q l b w =
+    let m : LeavesBy e s slots k x before mid (a .slot) = subst (λ (z : Acted). LeavesBy e s slots k x before mid (z .slot)) (sym b) l in
+    does-taken e s slots before o slots′ after r c u (w .outcome) (ends-acted s slots before mid e k x q slots′ after now a r h p t m w)
     (w .written ∙ ap (λ (z : Acted). z .written) b ∙ sym (ap length n))

@@ -6,7 +6,7 @@ use mathlib.Core.Bool.{Bool, true, false, not, _&&_, _||_, and-false, false≢tr
 use mathlib.Core.List.{List, []}
 use native.Mathlib.Omega.{arith}
 use lib.Dec.{eqb, ltb}
-use lib.ListN.{length, getD}
+use lib.ListN.{length}
 use borrow.Author.Tests.{eq-eqb, ne-eqb}
 use Rattle.laws.specs.Choice.{pick}
 use Rattle.laws.specs.Puts.{written}
@@ -32,11 +32,12 @@ use Rattle.slots.specs.declared.answers.Outcome.the-variants.{Taken, Refused}
 use Rattle.slots.specs.Codes.{codeNumber}
 use Rattle.slots.specs.State.{settingsOf}
 use Rattle.slots.proofs.Laws.{refused-code}
+use Rattle.table.specs.Words.{slotIn}
 use Rattle.actions.specs.declared.parts.Acted.{Acted}
 use Rattle.actions.specs.Parts.{slotWith, Moves, Wrote}
 use Rattle.actions.proofs.PartLaws.{wrote-none}
 use Rattle.server.specs.declared.answers.Answer.{Answer}
-use Rattle.server.specs.State.{zeroSlot, slotsOf, serverOf, ended, Ends, DoesOut}
+use Rattle.server.specs.State.{slotsOf, serverOf, ended, Ends, DoesOut}
 use Rattle.server.specs.Events.{ActsOn, slotNow, countsAs, readServer, readOctets, DoesRead}
 use Rattle.server.proofs.ServerLaws.{slot-of, closes, acted-in}
 use Rattle.server.proofs.DoesLaws.{step-not, written-not, out-not, out-counted}
@@ -49,74 +50,74 @@ none-counts c h e f = rw (e, f) (and-false (eqb c 10))
 refused-none : (f : Failure) (c : ℕ) → codeNumber (Refused f) ≡ c → eqb c 0 ≡ false
 refused-none f c e = ap (λ (n : ℕ). eqb n 0) (sym e) ∙ sym (refused-code (Refused f) refl)
 
-module _ (m : Reading) (p : List ℕ) (k now : ℕ) (s : Server) (before : List ℕ) where
+module _ (m : Reading) (p : List ℕ) (k now : ℕ) (s : Server) (slots before : List ℕ) where
   abbrev serverIf : Bool → rules.Server
-  serverIf b = pick b (readServer m k now s before) (serverOf s before)
+  serverIf b = pick b (readServer m k now s slots before) (serverOf s slots before)
 
   abbrev octetsIf : Bool → List ℕ
-  octetsIf b = pick b (readOctets m k s before) []
+  octetsIf b = pick b (readOctets m k s slots before) []
 
   -- a refusal, but for the malformed Hello
   pub read-refused : isMalformedHello p m ≡ false → (f : Failure) (r : Answer) (out : List ℕ)
-      → codeNumber (Refused f) ≡ readingCode (settingsOf (s .settings)) (slotNow s k before) m
-      → r ≡ record { server = s; outcome = Refused f; written = 0 } → DoesRead m p k now s before before out out r
+      → codeNumber (Refused f) ≡ readingCode (settingsOf (s .settings)) (slotNow slots k before) m
+      → r ≡ record { server = s; outcome = Refused f; written = 0 } → DoesRead m p k now s slots slots before before out out r
   read-refused h f r out c a =
-      let code : ℕ = readingCode (settingsOf (s .settings)) (slotNow s k before) m in
-      let n : countsAs m p s k before ≡ false = none-counts code (isMalformedHello p m) (refused-none f code c) h in
+      let code : ℕ = readingCode (settingsOf (s .settings)) (slotNow slots k before) m in
+      let n : countsAs m p s slots k before ≡ false = none-counts code (isMalformedHello p m) (refused-none f code c) h in
       record {
         code = ap (λ (x : Answer). codeNumber (x .outcome)) a ∙ c;
-        server = ap (λ (x : Answer). serverOf (x .server) before) a ∙ sym (ap serverIf n);
+        server = ap (λ (x : Answer). serverOf (x .server) slots before) a ∙ sym (ap serverIf n);
         wrote =
             subst (λ (q : List ℕ). Wrote q out out (r .written)) (sym (ap octetsIf n))
             (subst (λ (x : Answer). Wrote [] out out (x .written)) (sym a) (wrote-none out));
-        same = λ _. (ap (λ (x : Answer). x .server) a, refl);
+        same = λ _. (ap (λ (x : Answer). x .server) a, (refl, refl));
       }
 
-  pub read-counted : (after : List ℕ) (r : Answer) (out out′ : List ℕ) → countsAs m p s k before ≡ true
-      → codeNumber (r .outcome) ≡ readingCode (settingsOf (s .settings)) (slotNow s k before) m
-      → serverOf (r .server) after ≡ readServer m k now s before → Wrote (readOctets m k s before) out out′ (r .written)
-      → DoesRead m p k now s before after out out′ r
-  read-counted after r out out′ t c v w = record {
+  pub read-counted : (slots′ after : List ℕ) (r : Answer) (out out′ : List ℕ) → countsAs m p s slots k before ≡ true
+      → codeNumber (r .outcome) ≡ readingCode (settingsOf (s .settings)) (slotNow slots k before) m
+      → serverOf (r .server) slots′ after ≡ readServer m k now s slots before → Wrote (readOctets m k s slots before) out out′ (r .written)
+      → DoesRead m p k now s slots slots′ before after out out′ r
+  read-counted slots′ after r out out′ t c v w = record {
     code = c;
     server = v ∙ sym (ap serverIf t);
     wrote = subst (λ (q : List ℕ). Wrote q out out′ (r .written)) (sym (ap octetsIf t)) w;
     same = λ f. absurd (false≢true (sym f ∙ t));
   }
 
-module _ (p : List ℕ) (k now : ℕ) (s : Server) (x : Slot) (before : List ℕ) (h : k < 8) (e : x ≡ getD (s .slots) k zeroSlot) where
+module _ (p : List ℕ) (k now : ℕ) (s : Server) (slots : List ℕ) (x : Slot) (before : List ℕ) (h : k < 8) (e : x ≡ slotIn slots k) where
   -- the malformed Hello
-  pub read-malformed : (at : ℕ) (mid after out : List ℕ) (y : Slot) (u : Server) (r : Answer) → octet p 1 ≡ 5
-      → Moves k (malformedMove (x .link)) x before mid y → serverOf u after ≡ ended k now (slotWith y k mid) (serverOf s mid)
+  pub read-malformed : (at : ℕ) (slots′ mid after out : List ℕ) (y : Slot) (u : Server) (r : Answer) → octet p 1 ≡ 5
+      → Moves k (malformedMove (x .link)) x before mid y → serverOf u slots′ after ≡ ended k now (slotWith y k mid) (serverOf s slots mid)
       → r ≡ record { server = u; outcome = Refused failure.Malformed; written = 0 }
-      → DoesRead (malformed at) p k now s before after out out r
-  read-malformed at mid after out y u r t l v a =
-      let z : Slot = getD (s .slots) k zeroSlot in
+      → DoesRead (malformed at) p k now s slots slots′ before after out out r
+  read-malformed at slots′ mid after out y u r t l v a =
+      let z : Slot = slotIn slots k in
       let moves : Moves k (malformedMove (z .link)) z before mid y = subst (λ (w : Slot). Moves k (malformedMove (w .link)) w before mid y) e l in
-      subst (λ (q : Answer). DoesRead (malformed at) p k now s before after out out q) (sym a)
-      (read-counted (malformed at) p k now s before after (record { server = u; outcome = Refused failure.Malformed; written = 0 }) out out
-      (eq-eqb (octet p 1) 5 t) refl (closes (moves-rows k (malformedMove (z .link)) z before mid y moves) h s u now after v) (wrote-none out))
+      subst (λ (q : Answer). DoesRead (malformed at) p k now s slots slots′ before after out out q) (sym a)
+      (read-counted (malformed at) p k now s slots before slots′ after (record { server = u; outcome = Refused failure.Malformed; written = 0 }) out out
+      (eq-eqb (octet p 1) 5 t) refl (closes (moves-rows k (malformedMove (z .link)) z before mid y moves) h s u slots slots′ now after v) (wrote-none out))
 
   -- a message
   module _ (m : Message) (o : Outcome) (c : codeNumber o ≡ messageCode (settingsOf (s .settings)) (slotWith x k before) m) where
-    code-now : codeNumber o ≡ messageCode (settingsOf (s .settings)) (slotNow s k before) m
+    code-now : codeNumber o ≡ messageCode (settingsOf (s .settings)) (slotNow slots k before) m
     code-now = c ∙ ap (λ (w : Slot). messageCode (settingsOf (s .settings)) (slotWith w k before) m) e
 
     pub message-refused : (f : Failure) (r : Answer) (out : List ℕ) → o ≡ Refused f → r ≡ record { server = s; outcome = Refused f; written = 0 }
-        → DoesRead (message m) p k now s before before out out r
-    message-refused f r out t a = read-refused (message m) p k now s before refl f r out (ap codeNumber (sym t) ∙ code-now) a
+        → DoesRead (message m) p k now s slots slots before before out out r
+    message-refused f r out t a = read-refused (message m) p k now s slots before refl f r out (ap codeNumber (sym t) ∙ code-now) a
 
-    pub message-taken : (live : ℕ) (mid after out out′ : List ℕ) (a : Acted) (r : Answer) → o ≡ Taken
-        → ((memory : List ℕ) (rs : List CsaRecord) → m .body ≡ csuRequest rs → isMarked live ≡ liveIn (serverOf s memory .slots))
-        → ActsOn m (isMarked live) k now (settingsOf (s .settings)) x before mid out out′ a → Ends s k now a mid after r
-        → DoesRead (message m) p k now s before after out out′ r
-    message-taken live mid after out out′ a r t lv d n =
-        let z : messageCode (settingsOf (s .settings)) (slotNow s k before) m ≡ 0 = sym code-now ∙ ap codeNumber t in
-        let acts : ActsOn m (liveIn (slotsOf (s .slots) before)) k now (settingsOf (s .settings)) (getD (s .slots) k zeroSlot) before mid out out′ a =
-        acts-live m (isMarked live) (liveIn (slotsOf (s .slots) before)) k now (settingsOf (s .settings)) (getD (s .slots) k zeroSlot) before mid out out′ a (lv before)
+    pub message-taken : (live : ℕ) (slots′ mid after out out′ : List ℕ) (a : Acted) (r : Answer) → o ≡ Taken
+        → ((memory : List ℕ) (rs : List CsaRecord) → m .body ≡ csuRequest rs → isMarked live ≡ liveIn (slotsOf slots memory))
+        → ActsOn m (isMarked live) k now (settingsOf (s .settings)) x before mid out out′ a → Ends s slots slots′ k now a mid after r
+        → DoesRead (message m) p k now s slots slots′ before after out out′ r
+    message-taken live slots′ mid after out out′ a r t lv d n =
+        let z : messageCode (settingsOf (s .settings)) (slotNow slots k before) m ≡ 0 = sym code-now ∙ ap codeNumber t in
+        let acts : ActsOn m (liveIn (slotsOf slots before)) k now (settingsOf (s .settings)) (slotIn slots k) before mid out out′ a =
+        acts-live m (isMarked live) (liveIn (slotsOf slots before)) k now (settingsOf (s .settings)) (slotIn slots k) before mid out out′ a (lv before)
         (subst (λ (w : Slot). ActsOn m (isMarked live) k now (settingsOf (s .settings)) w before mid out out′ a) e d) in
-        read-counted (message m) p k now s before after r out out′
+        read-counted (message m) p k now s slots before slots′ after r out out′
         (ap (λ (i : ℕ). eqb i 0 || (eqb i 10 && false)) z) (ap codeNumber (n .outcome) ∙ sym z)
-        (closes (acts .left) h s (r .server) now after (n .server))
+        (closes (acts .left) h s (r .server) slots slots′ now after (n .server))
         (record { size = n .written ∙ acts .wrote .size; octets = acts .wrote .octets })
 
 -- ---- the event
@@ -134,56 +135,56 @@ poll-few s k now room =
     (pick-of (λ n. n ≤ 4) (ltb room 284) 3 d (omega arith)
     (pick-of (λ n. n ≤ 4) (isDown (slotAt s k .link .hello)) 4 0 (omega arith) (omega arith))))
 
-module _ (p : List ℕ) (k now : ℕ) (s : Server) (before out : List ℕ) where
+module _ (p : List ℕ) (k now : ℕ) (s : Server) (slots before out : List ℕ) where
   abbrev theEvent : Event
   theEvent = events.packet k now p (length out)
 
-  pub packet-refused : (o : Outcome) (f : Failure) (r : Answer) → codeNumber o ≡ pollCode (serverOf s before) k now (length out) → o ≡ Refused f
-      → r ≡ record { server = s; outcome = Refused f; written = 0 } → DoesOut (events.packet k now p (length out)) s before before out out r
+  pub packet-refused : (o : Outcome) (f : Failure) (r : Answer) → codeNumber o ≡ pollCode (serverOf s slots before) k now (length out) → o ≡ Refused f
+      → r ≡ record { server = s; outcome = Refused f; written = 0 } → DoesOut (events.packet k now p (length out)) s slots slots before before out out r
   unfolding codeOf
   packet-refused o f r c t a =
       let n : ℕ = codeNumber (Refused f) in
-      let q : n ≡ pollCode (serverOf s before) k now (length out) = ap codeNumber (sym t) ∙ c in
+      let q : n ≡ pollCode (serverOf s slots before) k now (length out) = ap codeNumber (sym t) ∙ c in
       let some : eqb n 0 ≡ false = refused-none f n refl in
-      let few : pollCode (serverOf s before) k now (length out) ≤ 4 = poll-few (serverOf s before) k now (length out) in
-      let rest : ℕ = readingCode (settingsOf (s .settings)) (slotAt (serverOf s before) k) (readPacket idLength p) in
-      out-not theEvent s before (Refused f) r out
+      let few : pollCode (serverOf s slots before) k now (length out) ≤ 4 = poll-few (serverOf s slots before) k now (length out) in
+      let rest : ℕ = readingCode (settingsOf (s .settings)) (slotAt (serverOf s slots before) k) (readPacket idLength p) in
+      out-not theEvent s slots before (Refused f) r out
       (or-stops n rest some ∙ ap (λ (i : ℕ). orElse i rest) q)
       (rw (some, ne-eqb n 10 (λ i. omega arith))) a
 
-  module _ (h : k < 8) (z : pollCode (serverOf s before) k now (length out) ≡ 0) where
-    code-is : codeOf (serverOf s before) theEvent ≡ readingCode (settingsOf (s .settings)) (slotNow s k before) (readPacket idLength p)
+  module _ (h : k < 8) (z : pollCode (serverOf s slots before) k now (length out) ≡ 0) where
+    code-is : codeOf (serverOf s slots before) theEvent ≡ readingCode (settingsOf (s .settings)) (slotNow slots k before) (readPacket idLength p)
     unfolding codeOf
     code-is =
-        ap (λ (i : ℕ). orElse i (readingCode (settingsOf (s .settings)) (slotAt (serverOf s before) k) (readPacket idLength p))) z
-        ∙ ap (λ (x : rules.Slot). readingCode (settingsOf (s .settings)) x (readPacket idLength p)) (slot-of s before k h)
+        ap (λ (i : ℕ). orElse i (readingCode (settingsOf (s .settings)) (slotAt (serverOf s slots before) k) (readPacket idLength p))) z
+        ∙ ap (λ (x : rules.Slot). readingCode (settingsOf (s .settings)) x (readPacket idLength p)) (slot-of s slots before k h)
 
-    counted-is : (b : Bool) → countsAs (readPacket idLength p) p s k before ≡ b → counts theEvent (codeOf (serverOf s before) theEvent) ≡ b
+    counted-is : (b : Bool) → countsAs (readPacket idLength p) p s slots k before ≡ b → counts theEvent (codeOf (serverOf s slots before) theEvent) ≡ b
     counted-is b t = ap (counts theEvent) code-is ∙ t
 
-    by-count : (b : Bool) (after out′ : List ℕ) (r : Answer) → countsAs (readPacket idLength p) p s k before ≡ b
-        → DoesRead (readPacket idLength p) p k now s before after out out′ r → DoesOut theEvent s before after out out′ r
-    by-count true after out′ r t d =
-        out-counted theEvent s before after r out out′ (counted-is true t) (d .code ∙ sym code-is)
-        (d .server ∙ ap (serverIf (readPacket idLength p) p k now s before) t ∙ sym (acted-in s before theEvent k h refl))
+    by-count : (b : Bool) (slots′ after out′ : List ℕ) (r : Answer) → countsAs (readPacket idLength p) p s slots k before ≡ b
+        → DoesRead (readPacket idLength p) p k now s slots slots′ before after out out′ r → DoesOut theEvent s slots slots′ before after out out′ r
+    by-count true slots′ after out′ r t d =
+        out-counted theEvent s slots before slots′ after r out out′ (counted-is true t) (d .code ∙ sym code-is)
+        (d .server ∙ ap (serverIf (readPacket idLength p) p k now s slots before) t ∙ sym (acted-in s slots before theEvent k h refl))
         (subst (λ (q : List ℕ). Wrote q out out′ (r .written))
-        (ap (octetsIf (readPacket idLength p) p k now s before) t
-        ∙ sym (ap (λ (x : rules.Slot). octetsOf (readSent (readPacket idLength p) (settingsOf (s .settings)) (liveIn (slotsOf (s .slots) before)) k (rowsIn before) x))
-        (slot-of s before k h))) (d .wrote))
-    by-count false after out′ r t d =
-        let c : counts theEvent (codeOf (serverOf s before) theEvent) ≡ false = counted-is false t in
+        (ap (octetsIf (readPacket idLength p) p k now s slots before) t
+        ∙ sym (ap (λ (x : rules.Slot). octetsOf (readSent (readPacket idLength p) (settingsOf (s .settings)) (liveIn (slotsOf slots before)) k (rowsIn before) x))
+        (slot-of s slots before k h))) (d .wrote))
+    by-count false slots′ after out′ r t d =
+        let c : counts theEvent (codeOf (serverOf s slots before) theEvent) ≡ false = counted-is false t in
         let w : Wrote [] out out′ (r .written) =
-        subst (λ (q : List ℕ). Wrote q out out′ (r .written)) (ap (octetsIf (readPacket idLength p) p k now s before) t) (d .wrote) in
+        subst (λ (q : List ℕ). Wrote q out out′ (r .written)) (ap (octetsIf (readPacket idLength p) p k now s slots before) t) (d .wrote) in
         record {
           does = record {
             code = d .code ∙ sym code-is;
-            server = d .server ∙ ap (serverIf (readPacket idLength p) p k now s before) t ∙ sym (step-not (serverOf s before) theEvent c);
-            size = w .size ∙ sym (ap length (written-not (serverOf s before) theEvent c));
+            server = d .server ∙ ap (serverIf (readPacket idLength p) p k now s slots before) t ∙ sym (step-not (serverOf s slots before) theEvent c);
+            size = w .size ∙ sym (ap length (written-not (serverOf s slots before) theEvent c));
             same = λ _. d .same t;
           };
-          octets = w .octets ∙ ap (λ (q : List ℕ). written q out) (sym (written-not (serverOf s before) theEvent c));
+          octets = w .octets ∙ ap (λ (q : List ℕ). written q out) (sym (written-not (serverOf s slots before) theEvent c));
         }
 
-    pub packet-read : (after out′ : List ℕ) (r : Answer) → DoesRead (readPacket idLength p) p k now s before after out out′ r
-        → DoesOut (events.packet k now p (length out)) s before after out out′ r
-    packet-read after out′ r d = by-count (countsAs (readPacket idLength p) p s k before) after out′ r refl d
+    pub packet-read : (slots′ after out′ : List ℕ) (r : Answer) → DoesRead (readPacket idLength p) p k now s slots slots′ before after out out′ r
+        → DoesOut (events.packet k now p (length out)) s slots slots′ before after out out′ r
+    packet-read slots′ after out′ r d = by-count (countsAs (readPacket idLength p) p s slots k before) slots′ after out′ r refl d

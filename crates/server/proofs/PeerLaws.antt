@@ -6,7 +6,7 @@ use mathlib.Core.Bool.{Bool, true, false, _&&_, _||_}
 use mathlib.Core.List.{List, []}
 use native.Mathlib.Numerals.{add-one}
 use native.Mathlib.Omega.{arith}
-use lib.ListN.{length, getD, drop, replicate, drop-of-length-le}
+use lib.ListN.{length, drop, replicate, drop-of-length-le}
 use lib.Seq.{drop-cons}
 use borrow.Author.Tests.{lt-ltb, le-ltb, eq-eqb, ne-eqb}
 use Rattle.laws.specs.Choice.{pick}
@@ -27,25 +27,24 @@ use Rattle.slots.specs.declared.answers.Failure.the-variants.{Size}
 use Rattle.slots.specs.declared.answers.Outcome.the-variants.{Taken, Refused}
 use Rattle.slots.specs.Codes.{codeNumber}
 use Rattle.slots.specs.State.{settingsOf, slotOf}
+use Rattle.table.specs.Words.{slotFrom, slotIn}
 use Rattle.server.specs.declared.answers.Answer.{Answer}
-use Rattle.server.specs.State.{zeroSlot, slotsOf, serverOf, Starts}
+use Rattle.server.specs.State.{slotsOf, serverOf, Starts}
 use Rattle.server.specs.Events.{Clears}
 use Rattle.server.proofs.ServerLaws.{slots-eight, slot-get, LeavesBy}
 use Rattle.server.proofs.CodeLaws.{used-is}
 
 -- ---- a fresh server
-fresh-slots : (x : Slot) (m : List ℕ) → slotOf x [] [] ≡ freshSlot → memoryOf m ≡ freshMemory → slotsOf (replicate 8 x) m ≡ replicate 8 freshSlot
+fresh-slots : (slots m : List ℕ) → ((k : ℕ) → slotIn slots k ≡ slotFrom (λ _. 0)) → memoryOf m ≡ freshMemory → slotsOf slots m ≡ replicate 8 freshSlot
 unfolding slotsOf
-fresh-slots x m e f =
-    (λ z. table (λ j. slotOf (getD (replicate 8 x) j zeroSlot) (requestsOf (f z) j) (keptOf (f z) j)) 8 0)
-    ∙ ap (replicate 8) e
+fresh-slots slots m e f = λ z. table (λ j. slotOf (e j z) (requestsOf (f z) j) (keptOf (f z) j)) 8 0
 
-pub fresh-server : (s : Settings) (x : Slot) (m : List ℕ) → slotOf x [] [] ≡ freshSlot → memoryOf m ≡ freshMemory
-    → serverOf (record { settings = s; time = 0; slots = replicate 8 x }) m ≡ fresh (settingsOf s)
-fresh-server s x m e f = λ z. record {
+pub fresh-server : (s : Settings) (slots m : List ℕ) → ((k : ℕ) → slotIn slots k ≡ slotFrom (λ _. 0)) → memoryOf m ≡ freshMemory
+    → serverOf (record { settings = s; time = 0 }) slots m ≡ fresh (settingsOf s)
+fresh-server s slots m e f = λ z. record {
   settings = settingsOf s;
   time = 0;
-  slots = fresh-slots x m e f z;
+  slots = fresh-slots slots m e f z;
   rows = (sym (memory-rows m) ∙ ap (λ (t : Memory). t .rows) f) z;
 }
 
@@ -61,25 +60,28 @@ module _ (s : Settings) (n : length (s .id) ≡ 4) where
   both-set d e = rw (eq-eqb (length (s .id)) 4 n, ne-eqb (s .interval) 0 d, ne-eqb (s .factor) 0 e)
 
 module _ (s : Settings) (v : Server) (r : Answer) where
-  pub starts-not : (m : List ℕ) → settingsCode (settingsOf s) ≡ 17 → r ≡ record { server = v; outcome = Refused Size; written = 0 } → Starts s m m r
-  starts-not m c a = record {
+  pub starts-not : (slots m : List ℕ) → settingsCode (settingsOf s) ≡ 17 → r ≡ record { server = v; outcome = Refused Size; written = 0 }
+      → Starts s slots slots m m r
+  starts-not slots m c a = record {
     code = ap (λ (x : Answer). codeNumber (x .outcome)) a ∙ sym c;
     server = λ z. absurd (omega (arith, c, z));
-    same = λ _. refl;
+    size = ap (λ (x : Answer). x .written) a;
+    same = λ _. (refl, refl);
   }
 
-  pub starts-so : (before after : List ℕ) → settingsCode (settingsOf s) ≡ 0 → serverOf v after ≡ fresh (settingsOf s)
-      → r ≡ record { server = v; outcome = Taken; written = 0 } → Starts s before after r
-  starts-so before after c f a = record {
+  pub starts-so : (slots slots′ before after : List ℕ) → settingsCode (settingsOf s) ≡ 0 → serverOf v slots′ after ≡ fresh (settingsOf s)
+      → r ≡ record { server = v; outcome = Taken; written = 0 } → Starts s slots slots′ before after r
+  starts-so slots slots′ before after c f a = record {
     code = ap (λ (x : Answer). codeNumber (x .outcome)) a ∙ sym c;
-    server = λ _. ap (λ (x : Answer). serverOf (x .server) after) a ∙ f;
+    server = λ _. ap (λ (x : Answer). serverOf (x .server) slots′ after) a ∙ f;
+    size = ap (λ (x : Answer). x .written) a;
     same = λ z. absurd (z c);
   }
 
 -- ---- a peer looked for, slot by slot
-module _ (slots : List Slot) (id : List ℕ) where
+module _ (slots id : List ℕ) where
   abbrev peerAt : ℕ → Bool
-  peerAt k = getD slots k zeroSlot .used && same (getD slots k zeroSlot .peer) id
+  peerAt k = slotIn slots k .used && same (slotIn slots k .peer) id
 
   -- the rest from slot k on tells of all
   abbrev pub RestTells : ℕ → Type 0
@@ -105,9 +107,9 @@ module _ (slots : List Slot) (id : List ℕ) where
       sym (e m ∙ ap (has (isPeer id)) (drop-of-length-le (slotsOf slots m) l))
 
 -- ---- the code of adding a peer
-module _ (s : Server) (k : ℕ) (id m : List ℕ) where
+module _ (s : Server) (slots : List ℕ) (k : ℕ) (id m : List ℕ) where
   abbrev addCode : ℕ
-  addCode = addPeerCode (serverOf s m) k id
+  addCode = addPeerCode (serverOf s slots m) k id
 
   pub add-above : 8 ≤ k → 1 ≡ addCode
   add-above h = rw (le-ltb k 8 h)
@@ -117,15 +119,15 @@ module _ (s : Server) (k : ℕ) (id m : List ℕ) where
     add-size n = rw (lt-ltb k 8 h, ne-eqb (length id) 4 n)
 
     module _ (n : length id ≡ 4) where
-      pub add-used : getD (s .slots) k zeroSlot .used ≡ true → 17 ≡ addCode
-      add-used u = rw (lt-ltb k 8 h, eq-eqb (length id) 4 n, used-is s k m h u)
+      pub add-used : slotIn slots k .used ≡ true → 17 ≡ addCode
+      add-used u = rw (lt-ltb k 8 h, eq-eqb (length id) 4 n, used-is s slots k m h u)
 
-      module _ (u : getD (s .slots) k zeroSlot .used ≡ false) where
+      module _ (u : slotIn slots k .used ≡ false) where
         pub add-own : same id (s .settings .id) ≡ true → 17 ≡ addCode
-        add-own o = rw (lt-ltb k 8 h, eq-eqb (length id) 4 n, used-is s k m h u, o)
+        add-own o = rw (lt-ltb k 8 h, eq-eqb (length id) 4 n, used-is s slots k m h u, o)
 
-        pub add-tried : (b : Bool) → same id (s .settings .id) ≡ false → b ≡ has (isPeer id) (slotsOf (s .slots) m) → pick b 17 0 ≡ addCode
-        add-tried b o e = rw (lt-ltb k 8 h, eq-eqb (length id) 4 n, used-is s k m h u, o, e)
+        pub add-tried : (b : Bool) → same id (s .settings .id) ≡ false → b ≡ has (isPeer id) (slotsOf slots m) → pick b 17 0 ≡ addCode
+        add-tried b o e = rw (lt-ltb k 8 h, eq-eqb (length id) 4 n, used-is s slots k m h u, o, e)
 
 -- ---- the slot
 pub clears : (k : ℕ) (x : Slot) (before mid after : List ℕ) (b : Bool) → b ≡ enters (x .link .alignment) Down
@@ -135,6 +137,6 @@ clears k x before mid after b e f g =
     let rows : rowsIn mid ≡ rowsIn before = rows-after before mid (withKept k [] (withRequests k [] (memoryOf before))) f ∙ memory-rows before in
     g ∙ (λ z. withRows (clearedIf (e z) k (rows z)) (f z))
 
-pub add-leaves : (s : Server) (k : ℕ) (id a : List ℕ) (x y : Slot) (before after : List ℕ) → a ≡ id → slotOf y [] [] ≡ peerSlot a → Clears k x before after
-    → LeavesBy (addPeer k id) s k x before after y
-add-leaves s k id a x y before after q e c = record { struct = e ∙ ap peerSlot q; memory = c }
+pub add-leaves : (s : Server) (slots : List ℕ) (k : ℕ) (id a : List ℕ) (x y : Slot) (before after : List ℕ) → a ≡ id → slotOf y [] [] ≡ peerSlot a → Clears k x before after
+    → LeavesBy (addPeer k id) s slots k x before after y
+add-leaves s slots k id a x y before after q e c = record { struct = e ∙ ap peerSlot q; memory = c }

@@ -6,7 +6,7 @@ use mathlib.Core.Bool.{Bool, true, false, false≢true}
 use mathlib.Core.List.{List, []}
 use native.Mathlib.Omega.{arith}
 use lib.Dec.{ltb}
-use lib.ListN.{length, getD, List·getD-eq-default}
+use lib.ListN.{length, List·getD-eq-default}
 use lib.Pow.{pow-mono}
 use borrow.Author.Tests.{ltb-true, ltb-false}
 use Rattle.protocol.specs.Fields.{octet}
@@ -20,8 +20,9 @@ use Rattle.memory.proofs.Rooms.{requests-of}
 use Rattle.slots.specs.declared.state.Slot.{Slot}
 use Rattle.slots.specs.declared.state.Server.{Server}
 use Rattle.slots.specs.State.{slotOf}
+use Rattle.table.specs.Words.{slotIn}
 use Rattle.actions.specs.Parts.{slotWith}
-use Rattle.server.specs.State.{zeroSlot, slotsOf, serverOf}
+use Rattle.server.specs.State.{slotsOf, serverOf}
 use Rattle.server.specs.Events.{slotNow}
 use Rattle.server.proofs.ServerLaws.{slots-eight, slot-of}
 
@@ -30,25 +31,25 @@ use Rattle.server.proofs.ServerLaws.{slots-eight, slot-of}
 abbrev Shows : Slot → rules.Slot → Type 0
 Shows x y = slotOf x (y .requests) (y .kept) ≡ y
 
-module _ (s : Server) (m : List ℕ) (k : ℕ) where
-  slot-above : 8 ≤ k → slotAt (serverOf s m) k ≡ freshSlot
+module _ (s : Server) (slots m : List ℕ) (k : ℕ) where
+  slot-above : 8 ≤ k → slotAt (serverOf s slots m) k ≡ freshSlot
   slot-above h =
-      let n : length (slotsOf (s .slots) m) ≡ 8 = slots-eight (s .slots) m in
-      List·getD-eq-default (slotsOf (s .slots) m) freshSlot {n = k} (omega arith)
+      let n : length (slotsOf slots m) ≡ 8 = slots-eight slots m in
+      List·getD-eq-default (slotsOf slots m) freshSlot {n = k} (omega arith)
 
-  shows : (x : Slot) (y : rules.Slot) → slotAt (serverOf s m) k ≡ y → Shows x y → Shows x (slotAt (serverOf s m) k)
+  shows : (x : Slot) (y : rules.Slot) → slotAt (serverOf s slots m) k ≡ y → Shows x y → Shows x (slotAt (serverOf s slots m) k)
   shows x y e f = ap (λ (z : rules.Slot). slotOf x (z .requests) (z .kept)) e ∙ f ∙ sym e
 
-  pub shows-slot : (x : Slot) → k < 8 → x ≡ getD (s .slots) k zeroSlot → Shows x (slotAt (serverOf s m) k)
-  shows-slot x h e = shows x (slotNow s k m) (slot-of s m k h) (ap (λ (z : Slot). slotWith z k m) e)
+  pub shows-slot : (x : Slot) → k < 8 → x ≡ slotIn slots k → Shows x (slotAt (serverOf s slots m) k)
+  shows-slot x h e = shows x (slotNow slots k m) (slot-of s slots m k h) (ap (λ (z : Slot). slotWith z k m) e)
 
-  pub shows-fresh : (x : Slot) → 8 ≤ k → slotOf x [] [] ≡ freshSlot → Shows x (slotAt (serverOf s m) k)
+  pub shows-fresh : (x : Slot) → 8 ≤ k → slotOf x [] [] ≡ freshSlot → Shows x (slotAt (serverOf s slots m) k)
   shows-fresh x h e = shows x freshSlot (slot-above h) e
 
-  pub requests-below : (n : ℕ) → k < 8 → n ≡ length (requestsIn m k) → n ≡ length (slotAt (serverOf s m) k .requests)
-  requests-below n h e = e ∙ ap length (sym (ap (λ (x : rules.Slot). x .requests) (slot-of s m k h) ∙ requests-of m k h))
+  pub requests-below : (n : ℕ) → k < 8 → n ≡ length (requestsIn m k) → n ≡ length (slotAt (serverOf s slots m) k .requests)
+  requests-below n h e = e ∙ ap length (sym (ap (λ (x : rules.Slot). x .requests) (slot-of s slots m k h) ∙ requests-of m k h))
 
-  pub requests-above : 8 ≤ k → 0 ≡ length (slotAt (serverOf s m) k .requests)
+  pub requests-above : 8 ≤ k → 0 ≡ length (slotAt (serverOf s slots m) k .requests)
   requests-above h = sym (ap (λ (x : rules.Slot). length (x .requests)) (slot-above h))
 
 -- ---- a row

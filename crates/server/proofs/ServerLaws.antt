@@ -1,12 +1,16 @@
 -- The slots of the server with their parts of the memory, and what an event in a slot leaves of the server.
 -- Assumes nothing.
 use Prim.Native.Nat.{ℕ, _<_}
-use mathlib.Core.Path.{_≡_, sym, ap, _∙_, subst}
+use mathlib.Core.Path.{_≡_, refl, sym, ap, _∙_, subst}
+use mathlib.Core.Bool.{Bool}
 use mathlib.Core.List.{List, []}
 use native.Mathlib.Omega.{arith}
 use lib.ListN.{length, getD}
 use lib.ListN as lists
 use lib.Seq.{getD-set-same, getD-set-other, set-set}
+use borrow.Author.Tests.{eq-eqb, ne-eqb}
+use Rattle.laws.specs.Choice.{pick}
+use Rattle.laws.specs.Tables.{on}
 use Rattle.laws.proofs.TableLaws.{table-length, table-get, table-same, table-set}
 use Rattle.rules.specs.Server as rules
 use Rattle.rules.specs.Server.{freshSlot, Row, slotAt}
@@ -18,59 +22,63 @@ use Rattle.records.proofs.MemoryLaws.{rows-are}
 use Rattle.slots.specs.declared.state.Slot.{Slot}
 use Rattle.slots.specs.declared.state.Server.{Server}
 use Rattle.slots.specs.State.{settingsOf, slotOf}
+use Rattle.table.specs.Words.{slotIn}
 use Rattle.actions.specs.declared.parts.Acted.{Acted}
 use Rattle.actions.specs.Parts.{slotWith, Leaves}
 use Rattle.actions.proofs.PartLaws.{left-rows, left-slot}
 use Rattle.server.specs.declared.answers.Answer.{Answer}
-use Rattle.server.specs.State.{zeroSlot, slotsOf, serverOf, withSlot, ended, Ends}
+use Rattle.server.specs.State.{slotsOf, serverOf, ended, Ends}
 use Rattle.server.specs.Events.{slotNow}
 
 -- ---- the slots
-pub slots-eight : (slots : List Slot) (m : List ℕ) → length (slotsOf slots m) ≡ 8
+pub slots-eight : (slots : List ℕ) (m : List ℕ) → length (slotsOf slots m) ≡ 8
 unfolding slotsOf
-slots-eight slots m = table-length (λ k. slotWith (getD slots k zeroSlot) k m) 8 0
+slots-eight slots m = table-length (λ k. slotWith (slotIn slots k) k m) 8 0
 
-pub slot-get : (slots : List Slot) (m : List ℕ) (k : ℕ) → k < 8 → getD (slotsOf slots m) k freshSlot ≡ slotWith (getD slots k zeroSlot) k m
+pub slot-get : (slots : List ℕ) (m : List ℕ) (k : ℕ) → k < 8 → getD (slotsOf slots m) k freshSlot ≡ slotWith (slotIn slots k) k m
 unfolding slotsOf
-slot-get slots m k h = table-get (λ j. slotWith (getD slots j zeroSlot) j m) 8 k freshSlot h
+slot-get slots m k h = table-get (λ j. slotWith (slotIn slots j) j m) 8 k freshSlot h
 
-pub slot-of : (s : Server) (m : List ℕ) (k : ℕ) → k < 8 → slotAt (serverOf s m) k ≡ slotNow s k m
-slot-of s m k h = slot-get (s .slots) m k h
+pub slot-of : (s : Server) (slots m : List ℕ) (k : ℕ) → k < 8 → slotAt (serverOf s slots m) k ≡ slotNow slots k m
+slot-of s slots m k h = slot-get slots m k h
+
+-- the table with x put in slot k
+abbrev pub IsPut : ℕ → Slot → List ℕ → List ℕ → Type 0
+IsPut k x slots slots′ = (j : ℕ) → slotIn slots′ j ≡ on k x (slotIn slots) j
 
 -- slot k put, with its part of the memory
-pub slots-put : (slots : List Slot) (m : List ℕ) (k : ℕ) (x : Slot) → k < 8 → length slots ≡ 8
-    → slotsOf (lists.set slots k x) m ≡ lists.set (slotsOf slots m) k (slotWith x k m)
+pub slots-put : (slots slots′ m : List ℕ) (k : ℕ) (x : Slot) → k < 8 → IsPut k x slots slots′
+    → slotsOf slots′ m ≡ lists.set (slotsOf slots m) k (slotWith x k m)
 unfolding slotsOf
-slots-put slots m k x h n =
-    table-set (λ j. slotWith (getD slots j zeroSlot) j m) (λ j. slotWith (getD (lists.set slots k x) j zeroSlot) j m) 8 k h
-    (λ j a d. ap (λ (y : Slot). slotWith y j m) (getD-set-other slots k j x zeroSlot d))
-    ∙ ap (λ (y : Slot). lists.set (slotsOf slots m) k (slotWith y k m)) (getD-set-same slots k x zeroSlot (omega arith))
+slots-put slots slots′ m k x h p =
+    table-set (λ j. slotWith (slotIn slots j) j m) (λ j. slotWith (slotIn slots′ j) j m) 8 k h
+    (λ j a d. ap (λ (y : Slot). slotWith y j m) (p j ∙ ap (λ (b : Bool). pick b x (slotIn slots j)) (ne-eqb j k d)))
+    ∙ ap (λ (y : Slot). lists.set (slotsOf slots m) k (slotWith y k m)) (p k ∙ ap (λ (b : Bool). pick b x (slotIn slots k)) (eq-eqb k k refl))
 
 -- the memory is another, with the same parts of each slot
-pub slots-same : (slots : List Slot) (a b : List ℕ) → memoryOf b .requests ≡ memoryOf a .requests → memoryOf b .kept ≡ memoryOf a .kept
+pub slots-same : (slots : List ℕ) (a b : List ℕ) → memoryOf b .requests ≡ memoryOf a .requests → memoryOf b .kept ≡ memoryOf a .kept
     → slotsOf slots b ≡ slotsOf slots a
 unfolding slotsOf
 slots-same slots a b e f =
-    table-same (λ j. slotWith (getD slots j zeroSlot) j b) (λ j. slotWith (getD slots j zeroSlot) j a) 8
-    (λ j h z. slotOf (getD slots j zeroSlot) (getD (e z) j []) (getD (f z) j []))
+    table-same (λ j. slotWith (slotIn slots j) j b) (λ j. slotWith (slotIn slots j) j a) 8
+    (λ j h z. slotOf (slotIn slots j) (getD (e z) j []) (getD (f z) j []))
 
 -- the end of an event: the rows are swept
-pub ends : (s r : Server) (before after : List ℕ) (k now : ℕ) (x : Slot) → k < 8 → length (s .slots) ≡ 8
-    → memoryOf after ≡ withRows (swept (rowsIn before)) (memoryOf before) → r ≡ withSlot s k x now
-    → serverOf r after ≡ ended k now (slotWith x k before) (serverOf s before)
-ends s r before after k now x h n e a =
+pub ends : (s : Server) (slots slots′ before after : List ℕ) (k now : ℕ) (x : Slot) → k < 8 → IsPut k x slots slots′
+    → memoryOf after ≡ withRows (swept (rowsIn before)) (memoryOf before)
+    → serverOf (record { settings = s .settings; time = now }) slots′ after ≡ ended k now (slotWith x k before) (serverOf s slots before)
+ends s slots slots′ before after k now x h p e =
     let qs : memoryOf after .requests ≡ memoryOf before .requests = ap (λ (m : Memory). m .requests) e in
     let ks : memoryOf after .kept ≡ memoryOf before .kept = ap (λ (m : Memory). m .kept) e in
-    let put : slotsOf (lists.set (s .slots) k x) after ≡ lists.set (slotsOf (s .slots) before) k (slotWith x k before) =
-    slots-put (s .slots) after k x h n
-    ∙ (λ z. lists.set (slots-same (s .slots) before after qs ks z) k (slotOf x (getD (qs z) k []) (getD (ks z) k []))) in
-    ap (λ (t : Server). serverOf t after) a
-    ∙ (λ z. record {
+    let put : slotsOf slots′ after ≡ lists.set (slotsOf slots before) k (slotWith x k before) =
+    slots-put slots slots′ after k x h p
+    ∙ (λ z. lists.set (slots-same slots before after qs ks z) k (slotOf x (getD (qs z) k []) (getD (ks z) k []))) in
+    λ z. record {
       settings = settingsOf (s .settings);
       time = now;
       slots = put z;
       rows = rows-are before after (swept (rowsIn before)) e z;
-    })
+    }
 
 -- but for slot k
 module _ {k : ℕ} {slot : rules.Slot} {rows : List Row} {before after : List ℕ} {x : Slot} (l : Leaves k slot rows before after x) (h : k < 8) where
@@ -82,24 +90,21 @@ module _ {k : ℕ} {slot : rules.Slot} {rows : List Row} {before after : List �
       ap (λ (m : Memory). keptOf m j) (l .memory) ∙ getD-set-other (memoryOf before .kept) k j (slot .kept) [] d in
       λ z. slotOf y (e z) (f z)
 
-  pub slots-left : (slots : List Slot) → lists.set (slotsOf slots after) k (slotWith x k after) ≡ lists.set (slotsOf slots before) k slot
+  pub slots-left : (slots : List ℕ) → lists.set (slotsOf slots after) k (slotWith x k after) ≡ lists.set (slotsOf slots before) k slot
   unfolding slotsOf
   slots-left slots =
-      let y : rules.Slot = slotWith (getD slots k zeroSlot) k after in
+      let y : rules.Slot = slotWith (slotIn slots k) k after in
       ap (λ (t : List rules.Slot). lists.set t k (slotWith x k after))
-      (table-set (λ j. slotWith (getD slots j zeroSlot) j before) (λ j. slotWith (getD slots j zeroSlot) j after) 8 k h
-      (λ j a d. other-slot (getD slots j zeroSlot) j d))
+      (table-set (λ j. slotWith (slotIn slots j) j before) (λ j. slotWith (slotIn slots j) j after) 8 k h
+      (λ j a d. other-slot (slotIn slots j) j d))
       ∙ set-set (slotsOf slots before) k y (slotWith x k after)
       ∙ ap (lists.set (slotsOf slots before) k) (left-slot l h)
 
-  pub slots-leave : (slots : List Slot) → length slots ≡ 8 → slotsOf (lists.set slots k x) after ≡ lists.set (slotsOf slots before) k slot
-  slots-leave slots n = slots-put slots after k x h n ∙ slots-left slots
-
   -- the end of an event in slot k
-  pub closes : (s r : Server) (now : ℕ) (last : List ℕ) → serverOf r last ≡ ended k now (slotWith x k after) (serverOf s after)
-      → serverOf r last ≡ record { settings = settingsOf (s .settings); time = now; slots = lists.set (slotsOf (s .slots) before) k slot; rows = swept rows }
-  closes s r now last e =
-      e ∙ (λ z. record { settings = settingsOf (s .settings); time = now; slots = slots-left (s .slots) z; rows = swept (left-rows l z) })
+  pub closes : (s r : Server) (slots slots′ : List ℕ) (now : ℕ) (last : List ℕ) → serverOf r slots′ last ≡ ended k now (slotWith x k after) (serverOf s slots after)
+      → serverOf r slots′ last ≡ record { settings = settingsOf (s .settings); time = now; slots = lists.set (slotsOf slots before) k slot; rows = swept rows }
+  closes s r slots slots′ now last e =
+      e ∙ (λ z. record { settings = settingsOf (s .settings); time = now; slots = slots-left slots z; rows = swept (left-rows l z) })
 
 -- ---- an event in slot k acts: the slot that it leaves, and the rows
 -- y is the slot after it, rows those that it changed
@@ -132,39 +137,41 @@ place-acted s e k h p =
     }) p
     ∙ ap (at (lists.set (s .slots) k y)) (getD-set-same (s .slots) k y freshSlot h)
 
-pub acted-in : (s : Server) (m : List ℕ) (e : Event) (k : ℕ) → k < 8 → placeOf e ≡ inSlot k
-    → acted (serverOf s m) e ≡ actedIn k (timeAfter e (s .time)) (slotNow s k m)
-    (slotAfter e (settingsOf (s .settings)) (liveIn (slotsOf (s .slots) m)) (rowsIn m) (slotNow s k m))
-    (rowsChanged e (settingsOf (s .settings)) (liveIn (slotsOf (s .slots) m)) (rowsIn m)) (serverOf s m)
-acted-in s m e k h p =
-    let n : length (slotsOf (s .slots) m) ≡ 8 = slots-eight (s .slots) m in
-    place-acted (serverOf s m) e k (omega arith) p
+pub acted-in : (s : Server) (slots m : List ℕ) (e : Event) (k : ℕ) → k < 8 → placeOf e ≡ inSlot k
+    → acted (serverOf s slots m) e ≡ actedIn k (timeAfter e (s .time)) (slotNow slots k m)
+    (slotAfter e (settingsOf (s .settings)) (liveIn (slotsOf slots m)) (rowsIn m) (slotNow slots k m))
+    (rowsChanged e (settingsOf (s .settings)) (liveIn (slotsOf slots m)) (rowsIn m)) (serverOf s slots m)
+acted-in s slots m e k h p =
+    let n : length (slotsOf slots m) ≡ 8 = slots-eight slots m in
+    place-acted (serverOf s slots m) e k (omega arith) p
     ∙ ap (λ (x : rules.Slot). actedIn k (timeAfter e (s .time)) x
-    (slotAfter e (settingsOf (s .settings)) (liveIn (slotsOf (s .slots) m)) (rowsIn m) x)
-    (rowsChanged e (settingsOf (s .settings)) (liveIn (slotsOf (s .slots) m)) (rowsIn m)) (serverOf s m)) (slot-of s m k h)
+    (slotAfter e (settingsOf (s .settings)) (liveIn (slotsOf slots m)) (rowsIn m) x)
+    (rowsChanged e (settingsOf (s .settings)) (liveIn (slotsOf slots m)) (rowsIn m)) (serverOf s slots m)) (slot-of s slots m k h)
 
 -- what it leaves of slot k, which was x, and of the rows, before they are swept
-abbrev pub LeavesBy : Event → Server → ℕ → Slot → List ℕ → List ℕ → Slot → Type 0
-LeavesBy e s k x before after r =
-    let y = slotAfter e (settingsOf (s .settings)) (liveIn (slotsOf (s .slots) before)) (rowsIn before) (slotWith x k before) in
+abbrev pub LeavesBy : Event → Server → List ℕ → ℕ → Slot → List ℕ → List ℕ → Slot → Type 0
+LeavesBy e s slots k x before after r =
+    let y = slotAfter e (settingsOf (s .settings)) (liveIn (slotsOf slots before)) (rowsIn before) (slotWith x k before) in
     Leaves k y (clearedIf (enters (x .link .alignment) (y .link .alignment)) k
-    (rowsChanged e (settingsOf (s .settings)) (liveIn (slotsOf (s .slots) before)) (rowsIn before))) before after r
+    (rowsChanged e (settingsOf (s .settings)) (liveIn (slotsOf slots before)) (rowsIn before))) before after r
 
 -- so the server at its end is that of the event
-pub closes-acted : (s r : Server) (before after last : List ℕ) (e : Event) (k now : ℕ) (y : Slot) → k < 8 → placeOf e ≡ inSlot k → now ≡ timeAfter e (s .time)
-    → LeavesBy e s k (getD (s .slots) k zeroSlot) before after y → serverOf r last ≡ ended k now (slotWith y k after) (serverOf s after)
-    → serverOf r last ≡ acted (serverOf s before) e
-closes-acted s r before after last e k now y h p t l c =
-    let new : rules.Slot = slotAfter e (settingsOf (s .settings)) (liveIn (slotsOf (s .slots) before)) (rowsIn before) (slotNow s k before) in
-    let rows : List Row = rowsChanged e (settingsOf (s .settings)) (liveIn (slotsOf (s .slots) before)) (rowsIn before) in
-    closes l h s r now last c
-    ∙ ap (λ (u : ℕ). actedIn k u (slotNow s k before) new rows (serverOf s before)) t
-    ∙ sym (acted-in s before e k h p)
+pub closes-acted : (s r : Server) (slots slots′ before after last : List ℕ) (e : Event) (k now : ℕ) (y : Slot) → k < 8 → placeOf e ≡ inSlot k
+    → now ≡ timeAfter e (s .time) → LeavesBy e s slots k (slotIn slots k) before after y
+    → serverOf r slots′ last ≡ ended k now (slotWith y k after) (serverOf s slots after) → serverOf r slots′ last ≡ acted (serverOf s slots before) e
+closes-acted s r slots slots′ before after last e k now y h p t l c =
+    let new : rules.Slot = slotAfter e (settingsOf (s .settings)) (liveIn (slotsOf slots before)) (rowsIn before) (slotNow slots k before) in
+    let rows : List Row = rowsChanged e (settingsOf (s .settings)) (liveIn (slotsOf slots before)) (rowsIn before) in
+    closes l h s r slots slots′ now last c
+    ∙ ap (λ (u : ℕ). actedIn k u (slotNow slots k before) new rows (serverOf s slots before)) t
+    ∙ sym (acted-in s slots before e k h p)
 
-module _ (s : Server) (before after : List ℕ) (e : Event) (k : ℕ) (x : Slot) (q : x ≡ getD (s .slots) k zeroSlot) where
-  pub leaves-at : (y : Slot) → LeavesBy e s k x before after y → LeavesBy e s k (getD (s .slots) k zeroSlot) before after y
-  leaves-at y l = subst (λ (u : Slot). LeavesBy e s k u before after y) q l
+module _ (s : Server) (slots before after : List ℕ) (e : Event) (k : ℕ) (x : Slot) (q : x ≡ slotIn slots k) where
+  pub leaves-at : (y : Slot) → LeavesBy e s slots k x before after y → LeavesBy e s slots k (slotIn slots k) before after y
+  leaves-at y l = subst (λ (u : Slot). LeavesBy e s slots k u before after y) q l
 
-  pub ends-acted : (last : List ℕ) (now : ℕ) (a : Acted) (r : Answer) → k < 8 → placeOf e ≡ inSlot k → now ≡ timeAfter e (s .time)
-      → LeavesBy e s k x before after (a .slot) → Ends s k now a after last r → serverOf (r .server) last ≡ acted (serverOf s before) e
-  ends-acted last now a r h p t l c = closes-acted s (r .server) before after last e k now (a .slot) h p t (leaves-at (a .slot) l) (c .server)
+  pub ends-acted : (slots′ last : List ℕ) (now : ℕ) (a : Acted) (r : Answer) → k < 8 → placeOf e ≡ inSlot k → now ≡ timeAfter e (s .time)
+      → LeavesBy e s slots k x before after (a .slot) → Ends s slots slots′ k now a after last r
+      → serverOf (r .server) slots′ last ≡ acted (serverOf s slots before) e
+  ends-acted slots′ last now a r h p t l c =
+      closes-acted s (r .server) slots slots′ before after last e k now (a .slot) h p t (leaves-at (a .slot) l) (c .server)

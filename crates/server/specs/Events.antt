@@ -5,21 +5,19 @@ use mathlib.Core.Path.{_≡_}
 use mathlib.Core.Bool.{Bool, true, false, _&&_, _||_}
 use mathlib.Core.List.{List, []}
 use lib.Dec.{eqb}
-use lib.ListN.{getD}
 use lib.ListN as lists
 use Rattle.laws.specs.Choice.{pick}
-use Rattle.laws.specs.Tables.{has}
 use Rattle.protocol.specs.declared.Alignment.the-variants.{Down}
 use Rattle.protocol.specs.Messages.{Message}
 use Rattle.protocol.specs.Reading.{Reading}
 use Rattle.rules.specs.Server as rules
-use Rattle.rules.specs.Server.{Entry, Row, holds}
+use Rattle.rules.specs.Server.{Row, isUsed}
 use Rattle.rules.specs.Links.{enters}
 use Rattle.rules.specs.Rows.{clearedIf, swept}
 use Rattle.rules.specs.Sent.{octetsOf}
 use Rattle.rules.specs.Packets.{slotOn, rowsOn, sentOn}
 use Rattle.rules.specs.Poll.{pollSent}
-use Rattle.rules.specs.Refusals.{isHello, readingCode, isMalformedHello, holdsSpent, holdsPurged, holdsEmpty}
+use Rattle.rules.specs.Refusals.{isHello, readingCode, isMalformedHello, rowSpent, rowPurged, rowEmpty}
 use Rattle.rules.specs.Events as events
 use Rattle.rules.specs.Events.{liveIn, upSlot, readSlot, readRows, readSent, acted}
 use Rattle.memory.specs.Memory.{rowsIn, memoryOf}
@@ -31,27 +29,17 @@ use Rattle.slots.specs.declared.state.Server.{Server}
 use Rattle.slots.specs.declared.answers.Outcome.the-variants.{Taken}
 use Rattle.slots.specs.Codes.{codeNumber}
 use Rattle.slots.specs.State.{settingsOf}
+use Rattle.table.specs.Words.{slotIn}
 use Rattle.actions.specs.declared.parts.Acted.{Acted}
 use Rattle.actions.specs.Parts.{slotWith, Leaves, Wrote, Acts}
 use Rattle.server.specs.declared.answers.Answer.{Answer}
 use Rattle.server.specs.declared.own.Own.{Own}
-use Rattle.server.specs.State.{zeroSlot, slotsOf, serverOf}
+use Rattle.server.specs.State.{slotsOf, serverOf}
 
 -- ---- changes of ours
--- one more row looked at
-abbrev pub ownBy : Entry → Row → Own → Own
-ownBy e r o = record {
-  held = o .held || holds e r;
-  spent = o .spent || holdsSpent e r;
-  purged = o .purged || holdsPurged e r;
-  empty = o .empty || holdsEmpty e r;
-}
-
-pub record Owns (e : Entry) (rows : List Row) (o : Own) : Type 0 where
-  pub is-held : o .held ≡ has (holds e) rows
-  pub is-spent : o .spent ≡ has (holdsSpent e) rows
-  pub is-purged : o .purged ≡ has (holdsPurged e) rows
-  pub is-empty : o .empty ≡ has (holdsEmpty e) rows
+-- what the row of an entry tells
+abbrev pub ownOf : Row → Own
+ownOf r = record { held = isUsed r; spent = rowSpent r; purged = rowPurged r; empty = rowEmpty r }
 
 -- ---- a packet
 -- what is known of a packet that was read: its records or receivers are in reach, and each record fits a row
@@ -66,40 +54,40 @@ ActsOn m live k now s x before after out out′ r =
     (octetsOf (sentOn (m .body) s live k (rowsIn before) m (slotWith x k before))) before after out out′ r
 
 -- a packet in slot k, once codes 1 to 4 were tried, by what is read of it: whether it counts, and the server and the octets if it does
-abbrev pub slotNow : Server → ℕ → List ℕ → rules.Slot
-slotNow s k memory = slotWith (getD (s .slots) k zeroSlot) k memory
+abbrev pub slotNow : List ℕ → ℕ → List ℕ → rules.Slot
+slotNow slots k memory = slotWith (slotIn slots k) k memory
 
-abbrev pub countsAs : Reading → List ℕ → Server → ℕ → List ℕ → Bool
-countsAs m p s k memory =
-    let c = readingCode (settingsOf (s .settings)) (slotNow s k memory) m in
+abbrev pub countsAs : Reading → List ℕ → Server → List ℕ → ℕ → List ℕ → Bool
+countsAs m p s slots k memory =
+    let c = readingCode (settingsOf (s .settings)) (slotNow slots k memory) m in
     eqb c 0 || (eqb c 10 && isMalformedHello p m)
 
-abbrev pub readServer : Reading → ℕ → ℕ → Server → List ℕ → rules.Server
-readServer m k now s memory =
-    let live = liveIn (slotsOf (s .slots) memory) in
-    let y = readSlot m (settingsOf (s .settings)) live k now (rowsIn memory) (slotNow s k memory) in
+abbrev pub readServer : Reading → ℕ → ℕ → Server → List ℕ → List ℕ → rules.Server
+readServer m k now s slots memory =
+    let live = liveIn (slotsOf slots memory) in
+    let y = readSlot m (settingsOf (s .settings)) live k now (rowsIn memory) (slotNow slots k memory) in
     record {
       settings = settingsOf (s .settings);
       time = now;
-      slots = lists.set (slotsOf (s .slots) memory) k y;
-      rows = swept (clearedIf (enters (slotNow s k memory .link .alignment) (y .link .alignment)) k (readRows m live k (rowsIn memory)));
+      slots = lists.set (slotsOf slots memory) k y;
+      rows = swept (clearedIf (enters (slotNow slots k memory .link .alignment) (y .link .alignment)) k (readRows m live k (rowsIn memory)));
     }
 
-abbrev pub readOctets : Reading → ℕ → Server → List ℕ → List ℕ
-readOctets m k s memory =
-    octetsOf (readSent m (settingsOf (s .settings)) (liveIn (slotsOf (s .slots) memory)) k (rowsIn memory) (slotNow s k memory))
+abbrev pub readOctets : Reading → ℕ → Server → List ℕ → List ℕ → List ℕ
+readOctets m k s slots memory =
+    octetsOf (readSent m (settingsOf (s .settings)) (liveIn (slotsOf slots memory)) k (rowsIn memory) (slotNow slots k memory))
 
-pub record DoesRead (m : Reading) (p : List ℕ) (k now : ℕ) (s : Server) (before after out out′ : List ℕ) (r : Answer) : Type 0 where
-  pub code : codeNumber (r .outcome) ≡ readingCode (settingsOf (s .settings)) (slotNow s k before) m
-  pub server : serverOf (r .server) after ≡ pick (countsAs m p s k before) (readServer m k now s before) (serverOf s before)
-  pub wrote : Wrote (pick (countsAs m p s k before) (readOctets m k s before) []) out out′ (r .written)
-  pub same : countsAs m p s k before ≡ false → (r .server ≡ s) × (after ≡ before)
+pub record DoesRead (m : Reading) (p : List ℕ) (k now : ℕ) (s : Server) (slots slots′ before after out out′ : List ℕ) (r : Answer) : Type 0 where
+  pub code : codeNumber (r .outcome) ≡ readingCode (settingsOf (s .settings)) (slotNow slots k before) m
+  pub server : serverOf (r .server) slots′ after ≡ pick (countsAs m p s slots k before) (readServer m k now s slots before) (serverOf s slots before)
+  pub wrote : Wrote (pick (countsAs m p s slots k before) (readOctets m k s slots before) []) out out′ (r .written)
+  pub same : countsAs m p s slots k before ≡ false → (r .server ≡ s) × ((slots′ ≡ slots) × (after ≡ before))
 
 -- ---- a poll
-pub record PollsTaken (k now : ℕ) (s : Server) (before after out out′ : List ℕ) (r : Answer) : Type 0 where
-  pub server : (room : ℕ) → serverOf (r .server) after ≡ acted (serverOf s before) (events.poll k now room)
+pub record PollsTaken (k now : ℕ) (s : Server) (slots slots′ before after out out′ : List ℕ) (r : Answer) : Type 0 where
+  pub server : (room : ℕ) → serverOf (r .server) slots′ after ≡ acted (serverOf s slots before) (events.poll k now room)
   pub outcome : r .outcome ≡ Taken
-  pub wrote : Wrote (octetsOf (pollSent (settingsOf (s .settings)) now (rowsIn before) k (slotNow s k before))) out out′ (r .written)
+  pub wrote : Wrote (octetsOf (pollSent (settingsOf (s .settings)) now (rowsIn before) k (slotNow slots k before))) out out′ (r .written)
 
 -- ---- other events of a slot
 abbrev pub Ups : ℕ → Slot → List ℕ → List ℕ → Slot → Type 0

@@ -8,13 +8,14 @@ ghost use Rattle.slots.specs.declared.answers.Outcome.the-variants.{Taken, Refu
 ghost use Prim.Native.Nat.{ℕ, _<_};
 ghost use Rattle.rules.specs.Refusals as rules;
 ghost use Rattle.slots.specs.Codes.{codeNumber};
+ghost use lib.ListN.{length};
+ghost use Rattle.table.specs.Words.{tableSize};
 ghost use Rattle.server.specs.State.{serverOf};
-use crate::table;
+use protocol::HelloState;
 use slots::answers::Failure;
 use slots::answers::Outcome;
 use slots::hello;
 use slots::state::Server;
-use slots::state::Slot;
 
 // The server after an event, the answer, and how many octets were written.
 pub struct Answer {
@@ -24,14 +25,14 @@ pub struct Answer {
 }
 
 // Slot above 7, or no peer in it; time before the server's time.
-pub fn link_code(s: Server, k: usize, time: u32) -> Outcome
-    ensures { λ r. ⌜ ((memory : List ℕ) → codeNumber r ≡ rules.linkCode (serverOf s memory) k time) ⌝ }
+pub fn link_code(s: Server, slots: &[usize], k: usize, time: u32) -> Outcome
+    requires { ⌜ length (now slots) ≡ tableSize ⌝ }
+    ensures { λ r. ⌜ ((memory : List ℕ) → codeNumber r ≡ rules.linkCode (serverOf s (now (slots .entry)) memory) k time) ⌝ }
 {
     if 8 <= k {
         return Outcome::Refused(Failure::NoPeer);
     }
-    let x = table::slot_at(s, k);
-    if !x.used {
+    if !table::used_at(slots, k) {
         return Outcome::Refused(Failure::NoPeer);
     }
     if time < s.time {
@@ -41,14 +42,12 @@ pub fn link_code(s: Server, k: usize, time: u32) -> Outcome
 }
 
 // Out under 284 octets; the peer's link is down.
-fn room_code(x: Slot, room: usize) -> Outcome
-    ensures { λ r. ⌜ codeNumber r ≡ pick (ltb room 284) 3 (pick (links.isDown (x .link .hello)) 4 0) ⌝ }
+fn room_code(h: HelloState, room: usize) -> Outcome
+    ensures { λ r. ⌜ codeNumber r ≡ pick (ltb room 284) 3 (pick (links.isDown h) 4 0) ⌝ }
 {
     if room < 284 {
         return Outcome::Refused(Failure::ShortOut);
     }
-    let l = x.link;
-    let h = l.hello;
     if hello::is_down(h) {
         return Outcome::Refused(Failure::LinkDown);
     }
@@ -56,12 +55,13 @@ fn room_code(x: Slot, room: usize) -> Outcome
 }
 
 // Codes 1 to 4.
-pub fn poll_code(s: Server, k: usize, time: u32, room: usize) -> Outcome
-    ensures { λ r. ⌜ ((memory : List ℕ) → codeNumber r ≡ rules.pollCode (serverOf s memory) k time room) ⌝ }
+pub fn poll_code(s: Server, slots: &[usize], k: usize, time: u32, room: usize) -> Outcome
+    requires { ⌜ length (now slots) ≡ tableSize ⌝ }
+    ensures { λ r. ⌜ ((memory : List ℕ) → codeNumber r ≡ rules.pollCode (serverOf s (now (slots .entry)) memory) k time room) ⌝ }
 {
-    match link_code(s, k, time) {
+    match link_code(s, slots, k, time) {
         Outcome::Refused(f) => Outcome::Refused(f),
-        Outcome::Taken => room_code(table::slot_at(s, k), room),
+        Outcome::Taken => room_code(table::hello_at(slots, k), room),
     }
 }
 

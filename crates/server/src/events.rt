@@ -12,67 +12,96 @@ use crate::poll;
 use slots::state::Server;
 use slots::state::Settings;
 
-// The octets of a server's memory.
-pub const MEMORY: usize = 20800;
-
-// A server with these settings, and a memory with nothing in it. Where they are refused the server counts for nothing.
-pub fn start(settings: Settings, memory: &mut [u8; 20800]) -> Answer
-    ensures { λ r. ⌜ Starts settings (now (memory .entry)) (now (memory .exit)) r ⌝ }
+// A server with these settings, a table in which no slot has a peer, and a memory with nothing in it. Where they are refused the server counts for nothing.
+pub fn start(settings: Settings, slots: &mut [usize; 192], memory: &mut [u8; 20800]) -> Answer
+    ensures { λ r. ⌜ Starts settings (now (slots .entry)) (now (slots .exit)) (now (memory .entry)) (now (memory .exit)) r ⌝ }
 {
-    peers::start(settings, memory)
+    peers::start(settings, slots, memory)
 }
 
-pub fn add_peer(s: Server, memory: &mut [u8; 20800], slot: usize, id: &[u8]) -> Answer
-    ensures { λ r. ⌜ Does (events.addPeer slot (now (id .entry))) s (now (memory .entry)) (now (memory .exit)) r ⌝ }
+pub fn add_peer(
+    s: Server,
+    slots: &mut [usize; 192],
+    memory: &mut [u8; 20800],
+    slot: usize,
+    id: &[u8],
+) -> Answer
+    ensures { λ r. ⌜ Does (events.addPeer slot (now (id .entry))) s (now (slots .entry)) (now (slots .exit)) (now (memory .entry)) (now (memory .exit)) r ⌝ }
 {
-    peers::add_peer(s, memory, slot, id)
+    peers::add_peer(s, slots, memory, slot, id)
 }
 
-pub fn link_up(s: Server, memory: &mut [u8; 20800], slot: usize, time: u32) -> Answer
-    ensures { λ r. ⌜ Does (events.linkUp slot time) s (now (memory .entry)) (now (memory .exit)) r ⌝ }
+pub fn link_up(
+    s: Server,
+    slots: &mut [usize; 192],
+    memory: &mut [u8; 20800],
+    slot: usize,
+    time: u32,
+) -> Answer
+    ensures { λ r. ⌜ Does (events.linkUp slot time) s (now (slots .entry)) (now (slots .exit)) (now (memory .entry)) (now (memory .exit)) r ⌝ }
 {
-    links::link_up(s, memory, slot, time)
+    links::link_up(s, slots, memory, slot, time)
 }
 
-pub fn link_down(s: Server, memory: &mut [u8; 20800], slot: usize, time: u32) -> Answer
-    ensures { λ r. ⌜ Does (events.linkDown slot time) s (now (memory .entry)) (now (memory .exit)) r ⌝ }
+pub fn link_down(
+    s: Server,
+    slots: &mut [usize; 192],
+    memory: &mut [u8; 20800],
+    slot: usize,
+    time: u32,
+) -> Answer
+    ensures { λ r. ⌜ Does (events.linkDown slot time) s (now (slots .entry)) (now (slots .exit)) (now (memory .entry)) (now (memory .exit)) r ⌝ }
 {
-    links::link_down(s, memory, slot, time)
+    links::link_down(s, slots, memory, slot, time)
 }
 
 pub fn packet(
     s: Server,
+    slots: &mut [usize; 192],
     memory: &mut [u8; 20800],
     slot: usize,
     time: u32,
     octets: &[u8],
     out: &mut [u8],
 ) -> Answer
-    ensures { λ r. ⌜ DoesOut (events.packet slot time (now (octets .entry)) (length (now (out .entry)))) s (now (memory .entry)) (now (memory .exit)) (now (out .entry)) (now (out .exit)) r ⌝ }
+    ensures { λ r. ⌜ DoesOut (events.packet slot time (now (octets .entry)) (length (now (out .entry)))) s (now (slots .entry)) (now (slots .exit)) (now (memory .entry)) (now (memory .exit)) (now (out .entry)) (now (out .exit)) r ⌝ }
 {
-    packet::packet(s, memory, slot, time, octets, out)
+    packet::packet(s, slots, memory, slot, time, octets, out)
 }
 
-pub fn poll(s: Server, memory: &mut [u8; 20800], slot: usize, time: u32, out: &mut [u8]) -> Answer
-    ensures { λ r. ⌜ DoesOut (events.poll slot time (length (now (out .entry)))) s (now (memory .entry)) (now (memory .exit)) (now (out .entry)) (now (out .exit)) r ⌝ }
+pub fn poll(
+    s: Server,
+    slots: &mut [usize; 192],
+    memory: &mut [u8; 20800],
+    slot: usize,
+    time: u32,
+    out: &mut [u8],
+) -> Answer
+    ensures { λ r. ⌜ DoesOut (events.poll slot time (length (now (out .entry)))) s (now (slots .entry)) (now (slots .exit)) (now (memory .entry)) (now (memory .exit)) (now (out .entry)) (now (out .exit)) r ⌝ }
 {
-    poll::poll(s, memory, slot, time, out)
+    poll::poll(s, slots, memory, slot, time, out)
 }
 
-pub fn set(s: Server, memory: &mut [u8; 20800], key: &[u8], payload: &[u8]) -> Answer
-    ensures { λ r. ⌜ Does (events.set (now (key .entry)) (now (payload .entry))) s (now (memory .entry)) (now (memory .exit)) r ⌝ }
+pub fn set(
+    s: Server,
+    slots: &[usize; 192],
+    memory: &mut [u8; 20800],
+    key: &[u8],
+    payload: &[u8],
+) -> Answer
+    ensures { λ r. ⌜ Does (events.set (now (key .entry)) (now (payload .entry))) s (now (slots .entry)) (now (slots .entry)) (now (memory .entry)) (now (memory .exit)) r ⌝ }
 {
-    own::set(s, memory, key, payload)
+    own::set(s, slots, memory, key, payload)
 }
 
-pub fn withdraw(s: Server, memory: &mut [u8; 20800], key: &[u8]) -> Answer
-    ensures { λ r. ⌜ Does (events.withdraw (now (key .entry))) s (now (memory .entry)) (now (memory .exit)) r ⌝ }
+pub fn withdraw(s: Server, slots: &[usize; 192], memory: &mut [u8; 20800], key: &[u8]) -> Answer
+    ensures { λ r. ⌜ Does (events.withdraw (now (key .entry))) s (now (slots .entry)) (now (slots .entry)) (now (memory .entry)) (now (memory .exit)) r ⌝ }
 {
-    own::withdraw(s, memory, key)
+    own::withdraw(s, slots, memory, key)
 }
 
-pub fn purge(s: Server, memory: &mut [u8; 20800], key: &[u8]) -> Answer
-    ensures { λ r. ⌜ Does (events.purge (now (key .entry))) s (now (memory .entry)) (now (memory .exit)) r ⌝ }
+pub fn purge(s: Server, slots: &[usize; 192], memory: &mut [u8; 20800], key: &[u8]) -> Answer
+    ensures { λ r. ⌜ Does (events.purge (now (key .entry))) s (now (slots .entry)) (now (slots .entry)) (now (memory .entry)) (now (memory .exit)) r ⌝ }
 {
-    own::purge(s, memory, key)
+    own::purge(s, slots, memory, key)
 }

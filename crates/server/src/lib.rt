@@ -1,5 +1,6 @@
 // The server: the eight events of document 01, and what a host may ask of it.
 pub mod answers;
+pub mod ends;
 pub mod events;
 pub mod links;
 pub mod own;
@@ -7,4 +8,3 @@ pub mod packet;
 pub mod peers;
 pub mod poll;
 pub mod queries;
-pub mod table;

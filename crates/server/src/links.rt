@@ -5,12 +5,13 @@ ghost use lib.ListN.{length};
 ghost use Rattle.rules.specs.Events as events;
 ghost use Rattle.rules.specs.Links as links;
 ghost use Rattle.memory.specs.Layout.{memorySize};
+ghost use Rattle.table.specs.Words.{tableSize};
 ghost use Rattle.actions.specs.Parts.{Moves};
 ghost use Rattle.server.specs.State.{Does};
 ghost use Rattle.server.specs.Events.{Ups};
 use crate::answers;
 use crate::answers::Answer;
-use crate::table;
+use crate::ends;
 use actions::parts;
 use protocol::Last;
 use slots::answers::Outcome;
@@ -33,15 +34,15 @@ fn up(memory: &mut [u8], k: usize, x: Slot) -> Slot
     x
 }
 
-pub fn link_up(s: Server, memory: &mut [u8], k: usize, time: u32) -> Answer
-    requires { ⌜ length (now memory) ≡ memorySize ⌝ }
-    ensures { λ r. ⌜ Does (events.linkUp k time) s (now (memory .entry)) (now (memory .exit)) r ⌝ }
+pub fn link_up(s: Server, slots: &mut [usize], memory: &mut [u8], k: usize, time: u32) -> Answer
+    requires { ⌜ (length (now slots) ≡ tableSize) × (length (now memory) ≡ memorySize) ⌝ }
+    ensures { λ r. ⌜ Does (events.linkUp k time) s (now (slots .entry)) (now (slots .exit)) (now (memory .entry)) (now (memory .exit)) r ⌝ }
 {
-    match answers::link_code(s, k, time) {
+    match answers::link_code(s, slots, k, time) {
         Outcome::Refused(f) => answers::refuse(s, f),
         Outcome::Taken => {
-            let x = up(memory, k, table::slot_at(s, k));
-            table::taken(s, memory, k, time, parts::silent(x))
+            let x = up(memory, k, table::slot_at(slots, k));
+            ends::taken(s, slots, memory, k, time, parts::silent(x))
         }
     }
 }
@@ -54,15 +55,15 @@ fn down(memory: &mut [u8], k: usize, x: Slot) -> Slot
     parts::move_link(memory, k, x, hello::down_move(l))
 }
 
-pub fn link_down(s: Server, memory: &mut [u8], k: usize, time: u32) -> Answer
-    requires { ⌜ length (now memory) ≡ memorySize ⌝ }
-    ensures { λ r. ⌜ Does (events.linkDown k time) s (now (memory .entry)) (now (memory .exit)) r ⌝ }
+pub fn link_down(s: Server, slots: &mut [usize], memory: &mut [u8], k: usize, time: u32) -> Answer
+    requires { ⌜ (length (now slots) ≡ tableSize) × (length (now memory) ≡ memorySize) ⌝ }
+    ensures { λ r. ⌜ Does (events.linkDown k time) s (now (slots .entry)) (now (slots .exit)) (now (memory .entry)) (now (memory .exit)) r ⌝ }
 {
-    match answers::link_code(s, k, time) {
+    match answers::link_code(s, slots, k, time) {
         Outcome::Refused(f) => answers::refuse(s, f),
         Outcome::Taken => {
-            let x = down(memory, k, table::slot_at(s, k));
-            table::taken(s, memory, k, time, parts::silent(x))
+            let x = down(memory, k, table::slot_at(slots, k));
+            ends::taken(s, slots, memory, k, time, parts::silent(x))
         }
     }
 }

@@ -1,6 +1,7 @@
 // Document 01, 'Updates': set, withdraw and purge, changes of our own entries.
 ghost use mathlib.Core.Path.{_≡_};
-ghost use mathlib.Core.Bool.{_||_};
+ghost use mathlib.Core.List.{List};
+ghost use mathlib.Core.Bool.{true};
 ghost use Rattle.protocol.specs.Numbers as numbers;
 ghost use Rattle.rules.specs.Rows.{swept};
 ghost use Rattle.rules.specs.Updates.{setRows, withdrawRows, purgeRows};
@@ -10,21 +11,24 @@ ghost use Rattle.memory.specs.Memory.{memoryOf};
 ghost use Rattle.memory.specs.Entries.{rowsAs};
 ghost use Rattle.memory.specs.Search.{FitsRow};
 ghost use Rattle.slots.specs.State.{settingsOf};
-ghost use Prim.Native.Nat.{_≤_, _<_};
+ghost use Prim.Native.Nat.{ℕ, _<_};
 ghost use lib.ListN.{length};
 ghost use Rattle.rules.specs.Events as events;
 ghost use Rattle.rules.specs.Refusals as rules;
 ghost use Rattle.memory.specs.Layout.{memorySize};
+ghost use Rattle.table.specs.Words.{tableSize};
 ghost use Rattle.memory.specs.Memory.{rowIn, rowsIn};
 ghost use Rattle.memory.specs.Search.{entry};
 ghost use Rattle.slots.specs.Codes.{codeNumber};
 ghost use Rattle.server.specs.State.{slotsOf, serverOf, Does};
-ghost use Rattle.server.specs.Events.{ownBy, Owns};
+ghost use Rattle.rules.specs.Server.{isUsed};
+ghost use Rattle.server.specs.Events.{ownOf};
 use crate::answers;
 use crate::answers::Answer;
-use crate::table;
+use crate::ends;
 use memory::entries;
 use memory::rows;
+use memory::rows::Found;
 use memory::store;
 use protocol::CsaNumber;
 use records::standing;
@@ -32,7 +36,7 @@ use slots::answers::Failure;
 use slots::answers::Outcome;
 use slots::state::Server;
 
-// Of the rows that hold an entry: whether there is one, one with a number that is spent, one that is purged, one with no payload.
+// Of an entry: whether a row holds it; of the first such row, whether its number is spent, whether it is purged, whether it has no payload (or is not there).
 pub struct Own {
     pub held: bool,
     pub spent: bool,
@@ -47,51 +51,32 @@ fn is_spent(n: CsaNumber) -> bool
     2147483646 <= n.0
 }
 
-fn either(a: bool, b: bool) -> bool
-    ensures { λ r. ⌜ r ≡ (a || b) ⌝ }
-{
-    if a {
-        return true;
-    }
-    b
-}
-
-// With row i looked at too.
-fn own_row(memory: &[u8], i: usize, key: &[u8], id: &[u8], o: Own) -> Own
+fn own_at(memory: &[u8], i: usize) -> Own
     requires { ⌜ (length (now memory) ≡ memorySize) × (i < 64) ⌝ }
-    ensures { λ r. ⌜ r ≡ ownBy (entry (now (key .entry)) (now (id .entry))) (rowIn (now (memory .entry)) i) o ⌝ }
+    ensures { λ r. ⌜ (isUsed (rowIn (now (memory .entry)) i) ≡ true → r ≡ ownOf (rowIn (now (memory .entry)) i)) ⌝ }
 {
-    if !rows::row_is(memory, i, key, id) {
-        return o;
-    }
     let n = rows::number_of(memory, i);
-    let spent = either(o.spent, is_spent(n));
-    let purged = either(o.purged, store::is_purged(n));
-    let empty = either(o.empty, rows::payload_of(memory, i).len() == 0);
     Own {
         held: true,
-        spent,
-        purged,
-        empty,
+        spent: is_spent(n),
+        purged: store::is_purged(n),
+        empty: rows::payload_of(memory, i).len() == 0,
     }
 }
 
 fn own_of(memory: &[u8], key: &[u8], id: &[u8]) -> Own
     requires { ⌜ length (now memory) ≡ memorySize ⌝ }
-    ensures { λ r. ⌜ Owns (entry (now (key .entry)) (now (id .entry))) (rowsIn (now (memory .entry))) r ⌝ }
+    ensures { λ r. ⌜ r ≡ ownOf (rules.firstRow (entry (now (key .entry)) (now (id .entry))) (rowsIn (now (memory .entry)))) ⌝ }
 {
-    let mut o = Own {
-        held: false,
-        spent: false,
-        purged: false,
-        empty: false,
-    };
-    let mut i: usize = 0;
-    while i < 64 {
-        o = own_row(memory, i, key, id, o);
-        i += 1;
+    match rows::find(memory, key, id) {
+        Found::At(i) => own_at(memory, i),
+        Found::Nothing => Own {
+            held: false,
+            spent: false,
+            purged: false,
+            empty: true,
+        },
     }
-    o
 }
 
 fn key_good(key: &[u8]) -> bool
@@ -115,7 +100,7 @@ fn payload_good(payload: &[u8]) -> bool
 // ---- set
 fn set_code(s: Server, memory: &[u8], key: &[u8], payload: &[u8]) -> Outcome
     requires { ⌜ length (now memory) ≡ memorySize ⌝ }
-    ensures { λ r. ⌜ codeNumber r ≡ rules.setCode (serverOf s (now (memory .entry))) (now (key .entry)) (now (payload .entry)) ⌝ }
+    ensures { λ r. ⌜ ((slots : List ℕ) → codeNumber r ≡ rules.setCode (serverOf s slots (now (memory .entry))) (now (key .entry)) (now (payload .entry))) ⌝ }
 {
     if !key_good(key) {
         return Outcome::Refused(Failure::Size);
@@ -138,24 +123,24 @@ fn set_code(s: Server, memory: &[u8], key: &[u8], payload: &[u8]) -> Outcome
     Outcome::Refused(Failure::NoFreeRow)
 }
 
-fn set_taken(s: Server, memory: &mut [u8], key: &[u8], payload: &[u8])
-    requires { ⌜ (length (now memory) ≡ memorySize) × FitsRow (now key) (s .settings .id) (now payload) ⌝ }
-    ensures { λ _. ⌜ memoryOf (now (memory .exit)) ≡ rowsAs (λ rows. swept (setRows (liveIn (slotsOf (s .slots) (now (memory .entry)))) (ownEntry (settingsOf (s .settings)) (now (key .entry))) (now (payload .entry)) rows)) (now (memory .entry)) ⌝ }
+fn set_taken(s: Server, slots: &[usize], memory: &mut [u8], key: &[u8], payload: &[u8])
+    requires { ⌜ ((length (now slots) ≡ tableSize) × (length (now memory) ≡ memorySize)) × FitsRow (now key) (s .settings .id) (now payload) ⌝ }
+    ensures { λ _. ⌜ memoryOf (now (memory .exit)) ≡ rowsAs (λ rows. swept (setRows (liveIn (slotsOf (now (slots .entry)) (now (memory .entry)))) (ownEntry (settingsOf (s .settings)) (now (key .entry))) (now (payload .entry)) rows)) (now (memory .entry)) ⌝ }
 {
     let settings = s.settings;
     let id = settings.id;
-    entries::set_entry(memory, table::live_of(s), key, &id, payload);
+    entries::set_entry(memory, ends::live_of(slots), key, &id, payload);
     store::sweep(memory);
 }
 
-pub fn set(s: Server, memory: &mut [u8], key: &[u8], payload: &[u8]) -> Answer
-    requires { ⌜ length (now memory) ≡ memorySize ⌝ }
-    ensures { λ r. ⌜ Does (events.set (now (key .entry)) (now (payload .entry))) s (now (memory .entry)) (now (memory .exit)) r ⌝ }
+pub fn set(s: Server, slots: &[usize], memory: &mut [u8], key: &[u8], payload: &[u8]) -> Answer
+    requires { ⌜ (length (now slots) ≡ tableSize) × (length (now memory) ≡ memorySize) ⌝ }
+    ensures { λ r. ⌜ Does (events.set (now (key .entry)) (now (payload .entry))) s (now (slots .entry)) (now (slots .entry)) (now (memory .entry)) (now (memory .exit)) r ⌝ }
 {
     match set_code(s, memory, key, payload) {
         Outcome::Refused(f) => answers::refuse(s, f),
         Outcome::Taken => {
-            set_taken(s, memory, key, payload);
+            set_taken(s, slots, memory, key, payload);
             answers::take(s)
         }
     }
@@ -164,7 +149,7 @@ pub fn set(s: Server, memory: &mut [u8], key: &[u8], payload: &[u8]) -> Answer
 // ---- withdraw
 fn withdraw_code(s: Server, memory: &[u8], key: &[u8]) -> Outcome
     requires { ⌜ length (now memory) ≡ memorySize ⌝ }
-    ensures { λ r. ⌜ codeNumber r ≡ rules.withdrawCode (serverOf s (now (memory .entry))) (now (key .entry)) ⌝ }
+    ensures { λ r. ⌜ ((slots : List ℕ) → codeNumber r ≡ rules.withdrawCode (serverOf s slots (now (memory .entry))) (now (key .entry))) ⌝ }
 {
     if !key_good(key) {
         return Outcome::Refused(Failure::Size);
@@ -172,9 +157,6 @@ fn withdraw_code(s: Server, memory: &[u8], key: &[u8]) -> Outcome
     let settings = s.settings;
     let id = settings.id;
     let o = own_of(memory, key, &id);
-    if !o.held {
-        return Outcome::Refused(Failure::NoEntry);
-    }
     if o.empty {
         return Outcome::Refused(Failure::NoEntry);
     }
@@ -184,24 +166,24 @@ fn withdraw_code(s: Server, memory: &[u8], key: &[u8]) -> Outcome
     Outcome::Taken
 }
 
-fn withdraw_taken(s: Server, memory: &mut [u8], key: &[u8])
-    requires { ⌜ length (now memory) ≡ memorySize ⌝ }
-    ensures { λ _. ⌜ memoryOf (now (memory .exit)) ≡ rowsAs (λ rows. swept (withdrawRows (liveIn (slotsOf (s .slots) (now (memory .entry)))) (ownEntry (settingsOf (s .settings)) (now (key .entry))) rows)) (now (memory .entry)) ⌝ }
+fn withdraw_taken(s: Server, slots: &[usize], memory: &mut [u8], key: &[u8])
+    requires { ⌜ (length (now slots) ≡ tableSize) × (length (now memory) ≡ memorySize) ⌝ }
+    ensures { λ _. ⌜ memoryOf (now (memory .exit)) ≡ rowsAs (λ rows. swept (withdrawRows (liveIn (slotsOf (now (slots .entry)) (now (memory .entry)))) (ownEntry (settingsOf (s .settings)) (now (key .entry))) rows)) (now (memory .entry)) ⌝ }
 {
     let settings = s.settings;
     let id = settings.id;
-    entries::withdraw_entry(memory, table::live_of(s), key, &id);
+    entries::withdraw_entry(memory, ends::live_of(slots), key, &id);
     store::sweep(memory);
 }
 
-pub fn withdraw(s: Server, memory: &mut [u8], key: &[u8]) -> Answer
-    requires { ⌜ length (now memory) ≡ memorySize ⌝ }
-    ensures { λ r. ⌜ Does (events.withdraw (now (key .entry))) s (now (memory .entry)) (now (memory .exit)) r ⌝ }
+pub fn withdraw(s: Server, slots: &[usize], memory: &mut [u8], key: &[u8]) -> Answer
+    requires { ⌜ (length (now slots) ≡ tableSize) × (length (now memory) ≡ memorySize) ⌝ }
+    ensures { λ r. ⌜ Does (events.withdraw (now (key .entry))) s (now (slots .entry)) (now (slots .entry)) (now (memory .entry)) (now (memory .exit)) r ⌝ }
 {
     match withdraw_code(s, memory, key) {
         Outcome::Refused(f) => answers::refuse(s, f),
         Outcome::Taken => {
-            withdraw_taken(s, memory, key);
+            withdraw_taken(s, slots, memory, key);
             answers::take(s)
         }
     }
@@ -210,7 +192,7 @@ pub fn withdraw(s: Server, memory: &mut [u8], key: &[u8]) -> Answer
 // ---- purge
 fn purge_code(s: Server, memory: &[u8], key: &[u8]) -> Outcome
     requires { ⌜ length (now memory) ≡ memorySize ⌝ }
-    ensures { λ r. ⌜ codeNumber r ≡ rules.purgeCode (serverOf s (now (memory .entry))) (now (key .entry)) ⌝ }
+    ensures { λ r. ⌜ ((slots : List ℕ) → codeNumber r ≡ rules.purgeCode (serverOf s slots (now (memory .entry))) (now (key .entry))) ⌝ }
 {
     if !key_good(key) {
         return Outcome::Refused(Failure::Size);
@@ -227,24 +209,24 @@ fn purge_code(s: Server, memory: &[u8], key: &[u8]) -> Outcome
     Outcome::Taken
 }
 
-fn purge_taken(s: Server, memory: &mut [u8], key: &[u8])
-    requires { ⌜ length (now memory) ≡ memorySize ⌝ }
-    ensures { λ _. ⌜ memoryOf (now (memory .exit)) ≡ rowsAs (λ rows. swept (purgeRows (liveIn (slotsOf (s .slots) (now (memory .entry)))) (ownEntry (settingsOf (s .settings)) (now (key .entry))) rows)) (now (memory .entry)) ⌝ }
+fn purge_taken(s: Server, slots: &[usize], memory: &mut [u8], key: &[u8])
+    requires { ⌜ (length (now slots) ≡ tableSize) × (length (now memory) ≡ memorySize) ⌝ }
+    ensures { λ _. ⌜ memoryOf (now (memory .exit)) ≡ rowsAs (λ rows. swept (purgeRows (liveIn (slotsOf (now (slots .entry)) (now (memory .entry)))) (ownEntry (settingsOf (s .settings)) (now (key .entry))) rows)) (now (memory .entry)) ⌝ }
 {
     let settings = s.settings;
     let id = settings.id;
-    entries::purge_entry(memory, table::live_of(s), key, &id);
+    entries::purge_entry(memory, ends::live_of(slots), key, &id);
     store::sweep(memory);
 }
 
-pub fn purge(s: Server, memory: &mut [u8], key: &[u8]) -> Answer
-    requires { ⌜ length (now memory) ≡ memorySize ⌝ }
-    ensures { λ r. ⌜ Does (events.purge (now (key .entry))) s (now (memory .entry)) (now (memory .exit)) r ⌝ }
+pub fn purge(s: Server, slots: &[usize], memory: &mut [u8], key: &[u8]) -> Answer
+    requires { ⌜ (length (now slots) ≡ tableSize) × (length (now memory) ≡ memorySize) ⌝ }
+    ensures { λ r. ⌜ Does (events.purge (now (key .entry))) s (now (slots .entry)) (now (slots .entry)) (now (memory .entry)) (now (memory .exit)) r ⌝ }
 {
     match purge_code(s, memory, key) {
         Outcome::Refused(f) => answers::refuse(s, f),
         Outcome::Taken => {
-            purge_taken(s, memory, key);
+            purge_taken(s, slots, memory, key);
             answers::take(s)
         }
     }

@@ -16,17 +16,18 @@ ghost use Rattle.rules.specs.Refusals as rules;
 ghost use Rattle.rules.specs.Events.{liveIn};
 ghost use Rattle.rules.specs.Events as events;
 ghost use Rattle.memory.specs.Layout.{memorySize};
+ghost use Rattle.table.specs.Words.{tableSize};
 ghost use Rattle.memory.specs.Memory.{isMarked};
 ghost use Rattle.wire.specs.Views.{messageOf};
 ghost use Rattle.slots.specs.Codes.{failureNumber, codeNumber};
 ghost use Rattle.slots.specs.State.{settingsOf, slotOf, ruleOf};
 ghost use Rattle.actions.specs.Parts.{slotWith};
 ghost use Rattle.actions.specs.Steps.{caPacketAt};
-ghost use Rattle.server.specs.State.{serverOf, DoesOut};
+ghost use Rattle.server.specs.State.{slotsOf, DoesOut};
 ghost use Rattle.server.specs.Events.{Reaches, ActsOn, DoesRead};
 use crate::answers;
 use crate::answers::Answer;
-use crate::table;
+use crate::ends;
 use actions::parts;
 use actions::parts::Acted;
 use protocol::Kind;
@@ -127,13 +128,14 @@ fn message_code(s: Settings, p: &[u8], h: Head, x: Slot, rule: CaRule) -> Outcom
 
 // ---- what a taken packet does, by its type
 // The slots that puts go to. Only a CSU Request asks for them.
-fn live_for(s: Server, h: Head) -> u8
-    ensures { λ r. ⌜ ((memory p : List ℕ) (rs : List CsaRecord) → messageOf p h .body ≡ csuRequest rs → isMarked r ≡ liveIn (serverOf s memory .slots)) ⌝ }
+fn live_for(slots: &[usize], h: Head) -> u8
+    requires { ⌜ length (now slots) ≡ tableSize ⌝ }
+    ensures { λ r. ⌜ ((memory p : List ℕ) (rs : List CsaRecord) → messageOf p h .body ≡ csuRequest rs → isMarked r ≡ liveIn (slotsOf (now (slots .entry)) memory)) ⌝ }
 {
     let kind = h.kind;
     match kind {
         Kind::Ca => 0,
-        Kind::CsuRequest => table::live_of(s),
+        Kind::CsuRequest => ends::live_of(slots),
         Kind::CsuReply => 0,
         Kind::Csus => 0,
         Kind::Hello => 0,
@@ -169,6 +171,7 @@ fn act(
 // A packet that was read.
 fn message(
     s: Server,
+    slots: &mut [usize],
     memory: &mut [u8],
     p: &[u8],
     h: Head,
@@ -176,34 +179,41 @@ fn message(
     time: u32,
     out: &mut [u8],
 ) -> Answer
-    requires { ⌜ ((length (now memory) ≡ memorySize) × ((k < 8) × (284 ≤ length (now out)))) × Reaches (now p) h ⌝ }
-    ensures { λ r. ⌜ DoesRead (reading.message (messageOf (now (p .entry)) h)) (now (p .entry)) k time s (now (memory .entry)) (now (memory .exit)) (now (out .entry)) (now (out .exit)) r ⌝ }
+    requires { ⌜ ((length (now slots) ≡ tableSize) × (length (now memory) ≡ memorySize)) × (((k < 8) × (284 ≤ length (now out))) × Reaches (now p) h) ⌝ }
+    ensures { λ r. ⌜ DoesRead (reading.message (messageOf (now (p .entry)) h)) (now (p .entry)) k time s (now (slots .entry)) (now (slots .exit)) (now (memory .entry)) (now (memory .exit)) (now (out .entry)) (now (out .exit)) r ⌝ }
 {
-    let x = table::slot_at(s, k);
+    let x = table::slot_at(slots, k);
     let settings = s.settings;
     let id = settings.id;
     let rule = actions::alignment::rule_for(memory, &id, p, h, k, x);
     match message_code(settings, p, h, x, rule) {
         Outcome::Refused(f) => answers::refuse(s, f),
         Outcome::Taken => {
-            let live = live_for(s, h);
+            let live = live_for(slots, h);
             let acted = act(settings, memory, live, p, h, k, time, x, rule, out);
-            table::taken(s, memory, k, time, acted)
+            ends::taken(s, slots, memory, k, time, acted)
         }
     }
 }
 
 // A malformed packet: if it is a Hello its slot moves to Waiting.
-fn malformed(s: Server, memory: &mut [u8], p: &[u8], k: usize, time: u32) -> Answer
-    requires { ⌜ (length (now memory) ≡ memorySize) × (k < 8) ⌝ }
-    ensures { λ r. ⌜ ((at : ℕ) (out : List ℕ) → DoesRead (reading.malformed at) (now (p .entry)) k time s (now (memory .entry)) (now (memory .exit)) out out r) ⌝ }
+fn malformed(
+    s: Server,
+    slots: &mut [usize],
+    memory: &mut [u8],
+    p: &[u8],
+    k: usize,
+    time: u32,
+) -> Answer
+    requires { ⌜ ((length (now slots) ≡ tableSize) × (length (now memory) ≡ memorySize)) × (k < 8) ⌝ }
+    ensures { λ r. ⌜ ((at : ℕ) (out : List ℕ) → DoesRead (reading.malformed at) (now (p .entry)) k time s (now (slots .entry)) (now (slots .exit)) (now (memory .entry)) (now (memory .exit)) out out r) ⌝ }
 {
     if octets::octet(p, 1) != 5 {
         return answers::refuse(s, Failure::Malformed);
     }
-    let x = table::slot_at(s, k);
+    let x = table::slot_at(slots, k);
     let y = actions::hello::take_malformed(memory, k, x);
-    let server = table::finish(s, memory, k, y, time);
+    let server = ends::finish(s, slots, memory, k, y, time);
     answers::refuse(server, Failure::Malformed)
 }
 
@@ -221,23 +231,39 @@ fn fixed_failure(code: u8) -> Failure
 }
 
 // The packet is read, and taken or refused.
-fn reading(s: Server, memory: &mut [u8], p: &[u8], k: usize, time: u32, out: &mut [u8]) -> Answer
-    requires { ⌜ (length (now memory) ≡ memorySize) × ((k < 8) × (284 ≤ length (now out))) ⌝ }
-    ensures { λ r. ⌜ DoesRead (reading.readPacket idLength (now (p .entry))) (now (p .entry)) k time s (now (memory .entry)) (now (memory .exit)) (now (out .entry)) (now (out .exit)) r ⌝ }
+fn reading(
+    s: Server,
+    slots: &mut [usize],
+    memory: &mut [u8],
+    p: &[u8],
+    k: usize,
+    time: u32,
+    out: &mut [u8],
+) -> Answer
+    requires { ⌜ ((length (now slots) ≡ tableSize) × (length (now memory) ≡ memorySize)) × ((k < 8) × (284 ≤ length (now out))) ⌝ }
+    ensures { λ r. ⌜ DoesRead (reading.readPacket idLength (now (p .entry))) (now (p .entry)) k time s (now (slots .entry)) (now (slots .exit)) (now (memory .entry)) (now (memory .exit)) (now (out .entry)) (now (out .exit)) r ⌝ }
 {
     match read::read(p) {
         Reading::Refused(code) => answers::refuse(s, fixed_failure(code)),
-        Reading::Malformed(_) => malformed(s, memory, p, k, time),
-        Reading::Packet(h) => message(s, memory, p, h, k, time, out),
+        Reading::Malformed(_) => malformed(s, slots, memory, p, k, time),
+        Reading::Packet(h) => message(s, slots, memory, p, h, k, time, out),
     }
 }
 
-pub fn packet(s: Server, memory: &mut [u8], k: usize, time: u32, p: &[u8], out: &mut [u8]) -> Answer
-    requires { ⌜ length (now memory) ≡ memorySize ⌝ }
-    ensures { λ r. ⌜ DoesOut (events.packet k time (now (p .entry)) (length (now (out .entry)))) s (now (memory .entry)) (now (memory .exit)) (now (out .entry)) (now (out .exit)) r ⌝ }
+pub fn packet(
+    s: Server,
+    slots: &mut [usize],
+    memory: &mut [u8],
+    k: usize,
+    time: u32,
+    p: &[u8],
+    out: &mut [u8],
+) -> Answer
+    requires { ⌜ (length (now slots) ≡ tableSize) × (length (now memory) ≡ memorySize) ⌝ }
+    ensures { λ r. ⌜ DoesOut (events.packet k time (now (p .entry)) (length (now (out .entry)))) s (now (slots .entry)) (now (slots .exit)) (now (memory .entry)) (now (memory .exit)) (now (out .entry)) (now (out .exit)) r ⌝ }
 {
-    match answers::poll_code(s, k, time, out.len()) {
+    match answers::poll_code(s, slots, k, time, out.len()) {
         Outcome::Refused(f) => answers::refuse(s, f),
-        Outcome::Taken => reading(s, memory, p, k, time, out),
+        Outcome::Taken => reading(s, slots, memory, p, k, time, out),
     }
 }

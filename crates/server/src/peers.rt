@@ -10,13 +10,14 @@ ghost use Rattle.laws.specs.Tables.{has, same};
 ghost use Rattle.rules.specs.Events as events;
 ghost use Rattle.rules.specs.Refusals as rules;
 ghost use Rattle.memory.specs.Layout.{memorySize};
+ghost use Rattle.table.specs.Words.{tableSize, slotIn};
 ghost use Rattle.slots.specs.Codes.{codeNumber};
 ghost use Rattle.slots.specs.State.{settingsOf};
-ghost use Rattle.server.specs.State.{serverOf, Does, Starts};
+ghost use Rattle.server.specs.State.{slotsOf, serverOf, Does, Starts};
 ghost use Rattle.server.specs.Events.{Clears};
 use crate::answers;
 use crate::answers::Answer;
-use crate::table;
+use crate::ends;
 use actions::parts;
 use memory::store;
 use protocol::Alignment;
@@ -27,52 +28,43 @@ use slots::state::Server;
 use slots::state::Settings;
 use slots::state::Slot;
 
-fn fresh_server(settings: Settings) -> Server
-    ensures { λ r. ⌜ ((memory : List ℕ) → memoryOf memory ≡ freshMemory → serverOf r memory ≡ server.fresh (settingsOf settings)) ⌝ }
-{
-    let x = state::fresh_slot();
-    let slots = [x; 8];
-    Server {
-        settings,
-        time: 0,
-        slots,
-    }
-}
-
 // 17 for HelloInterval or DeadFactor 0.
-pub fn start(settings: Settings, memory: &mut [u8]) -> Answer
+pub fn start(settings: Settings, slots: &mut [usize], memory: &mut [u8]) -> Answer
     requires { ⌜ length (now memory) ≡ memorySize ⌝ }
-    ensures { λ r. ⌜ Starts settings (now (memory .entry)) (now (memory .exit)) r ⌝ }
+    ensures { λ r. ⌜ Starts settings (now (slots .entry)) (now (slots .exit)) (now (memory .entry)) (now (memory .exit)) r ⌝ }
 {
-    let server = fresh_server(settings);
+    let server = Server { settings, time: 0 };
     if settings.interval == 0 {
         return answers::refuse(server, Failure::Size);
     }
     if settings.factor == 0 {
         return answers::refuse(server, Failure::Size);
     }
+    table::clear(slots);
     store::fresh(memory);
     answers::take(server)
 }
 
 // ---- adding a peer
-fn is_peer(x: Slot, id: &[u8]) -> bool
-    ensures { λ r. ⌜ r ≡ (x .used && same (x .peer) (now (id .entry))) ⌝ }
+fn is_peer(slots: &[usize], k: usize, id: &[u8]) -> bool
+    requires { ⌜ (length (now slots) ≡ tableSize) × (k < 8) ⌝ }
+    ensures { λ r. ⌜ r ≡ (slotIn (now (slots .entry)) k .used && same (slotIn (now (slots .entry)) k .peer) (now (id .entry))) ⌝ }
 {
-    if !x.used {
+    if !table::used_at(slots, k) {
         return false;
     }
-    let peer = x.peer;
+    let peer = table::peer_at(slots, k);
     octets::same(&peer, id)
 }
 
 // Whether some slot has this peer.
-fn has_peer(s: Server, id: &[u8]) -> bool
-    ensures { λ r. ⌜ ((memory : List ℕ) → r ≡ has (rules.isPeer (now (id .entry))) (serverOf s memory .slots)) ⌝ }
+fn has_peer(slots: &[usize], id: &[u8]) -> bool
+    requires { ⌜ length (now slots) ≡ tableSize ⌝ }
+    ensures { λ r. ⌜ ((memory : List ℕ) → r ≡ has (rules.isPeer (now (id .entry))) (slotsOf (now (slots .entry)) memory)) ⌝ }
 {
     let mut k: usize = 0;
     while k < 8 {
-        if is_peer(table::slot_at(s, k), id) {
+        if is_peer(slots, k, id) {
             return true;
         }
         k += 1;
@@ -80,8 +72,9 @@ fn has_peer(s: Server, id: &[u8]) -> bool
     false
 }
 
-fn add_code(s: Server, k: usize, id: &[u8]) -> Outcome
-    ensures { λ r. ⌜ ((memory : List ℕ) → codeNumber r ≡ rules.addPeerCode (serverOf s memory) k (now (id .entry))) ⌝ }
+fn add_code(s: Server, slots: &[usize], k: usize, id: &[u8]) -> Outcome
+    requires { ⌜ length (now slots) ≡ tableSize ⌝ }
+    ensures { λ r. ⌜ ((memory : List ℕ) → codeNumber r ≡ rules.addPeerCode (serverOf s (now (slots .entry)) memory) k (now (id .entry))) ⌝ }
 {
     if 8 <= k {
         return Outcome::Refused(Failure::NoPeer);
@@ -89,8 +82,7 @@ fn add_code(s: Server, k: usize, id: &[u8]) -> Outcome
     if id.len() != 4 {
         return Outcome::Refused(Failure::Size);
     }
-    let x = table::slot_at(s, k);
-    if x.used {
+    if table::used_at(slots, k) {
         return Outcome::Refused(Failure::Size);
     }
     let settings = s.settings;
@@ -98,7 +90,7 @@ fn add_code(s: Server, k: usize, id: &[u8]) -> Outcome
     if octets::same(id, &own) {
         return Outcome::Refused(Failure::Size);
     }
-    if has_peer(s, id) {
+    if has_peer(slots, id) {
         return Outcome::Refused(Failure::Size);
     }
     Outcome::Taken
@@ -115,23 +107,23 @@ fn clear_slot(memory: &mut [u8], k: usize, x: Slot)
     parts::clear_if(memory, k, slots::alignment::enters(a, Alignment::Down));
 }
 
-fn add_taken(s: Server, memory: &mut [u8], k: usize, id: &[u8]) -> Server
-    requires { ⌜ (length (now memory) ≡ memorySize) × ((k < 8) × (length (now id) ≡ 4)) ⌝ }
-    ensures { λ r. ⌜ serverOf r (now (memory .exit)) ≡ events.acted (serverOf s (now (memory .entry))) (events.addPeer k (now (id .entry))) ⌝ }
+fn add_taken(s: Server, slots: &mut [usize], memory: &mut [u8], k: usize, id: &[u8]) -> Server
+    requires { ⌜ ((length (now slots) ≡ tableSize) × (length (now memory) ≡ memorySize)) × ((k < 8) × (length (now id) ≡ 4)) ⌝ }
+    ensures { λ r. ⌜ serverOf r (now (slots .exit)) (now (memory .exit)) ≡ events.acted (serverOf s (now (slots .entry)) (now (memory .entry))) (events.addPeer k (now (id .entry))) ⌝ }
 {
-    clear_slot(memory, k, table::slot_at(s, k));
+    clear_slot(memory, k, table::slot_at(slots, k));
     let x = state::peer_slot(records::list::array4(id));
-    table::finish(s, memory, k, x, s.time)
+    ends::finish(s, slots, memory, k, x, s.time)
 }
 
-pub fn add_peer(s: Server, memory: &mut [u8], k: usize, id: &[u8]) -> Answer
-    requires { ⌜ length (now memory) ≡ memorySize ⌝ }
-    ensures { λ r. ⌜ Does (events.addPeer k (now (id .entry))) s (now (memory .entry)) (now (memory .exit)) r ⌝ }
+pub fn add_peer(s: Server, slots: &mut [usize], memory: &mut [u8], k: usize, id: &[u8]) -> Answer
+    requires { ⌜ (length (now slots) ≡ tableSize) × (length (now memory) ≡ memorySize) ⌝ }
+    ensures { λ r. ⌜ Does (events.addPeer k (now (id .entry))) s (now (slots .entry)) (now (slots .exit)) (now (memory .entry)) (now (memory .exit)) r ⌝ }
 {
-    match add_code(s, k, id) {
+    match add_code(s, slots, k, id) {
         Outcome::Refused(f) => answers::refuse(s, f),
         Outcome::Taken => {
-            let server = add_taken(s, memory, k, id);
+            let server = add_taken(s, slots, memory, k, id);
             answers::take(server)
         }
     }

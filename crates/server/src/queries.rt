@@ -6,12 +6,12 @@ ghost use lib.ListN.{length};
 ghost use Rattle.rules.specs.Server as rules;
 ghost use Rattle.rules.specs.Server.{isUsed, waitsFor, rowAt};
 ghost use Rattle.memory.specs.Layout.{memorySize};
+ghost use Rattle.table.specs.Words.{tableSize};
 ghost use Rattle.memory.specs.Memory.{rowsIn};
 ghost use Rattle.slots.specs.State.{slotOf};
 ghost use Rattle.slots.specs.declared.state.Server as declared;
 ghost use Rattle.server.specs.State.{serverOf};
 ghost use Rattle.server.specs.Queries.{entryOf, valueOf};
-use crate::table;
 use memory::marks;
 use memory::requests;
 use memory::rows;
@@ -19,46 +19,46 @@ use protocol::Alignment;
 use protocol::CsaNumber;
 use protocol::HelloState;
 use slots::state;
-use slots::state::Server;
 use slots::state::Slot;
 
 // ---- a slot
-fn slot_of(s: Server, slot: usize) -> Slot
-    ensures { λ r. ⌜ ((memory : List ℕ) → slotOf r (rules.slotAt (serverOf s memory) slot .requests) (rules.slotAt (serverOf s memory) slot .kept) ≡ rules.slotAt (serverOf s memory) slot) ⌝ }
+fn slot_of(slots: &[usize], slot: usize) -> Slot
+    requires { ⌜ length (now slots) ≡ tableSize ⌝ }
+    ensures { λ r. ⌜ ((s : declared.Server) (memory : List ℕ) → slotOf r (rules.slotAt (serverOf s (now (slots .entry)) memory) slot .requests) (rules.slotAt (serverOf s (now (slots .entry)) memory) slot .kept) ≡ rules.slotAt (serverOf s (now (slots .entry)) memory) slot) ⌝ }
 {
     if slot < 8 {
-        return table::slot_at(s, slot);
+        return table::slot_at(slots, slot);
     }
     state::fresh_slot()
 }
 
-pub fn hello_of(s: Server, slot: usize) -> HelloState
-    ensures { λ r. ⌜ ((memory : List ℕ) → r ≡ rules.slotAt (serverOf s memory) slot .link .hello) ⌝ }
+pub fn hello_of(slots: &[usize; 192], slot: usize) -> HelloState
+    ensures { λ r. ⌜ ((s : declared.Server) (memory : List ℕ) → r ≡ rules.slotAt (serverOf s (now (slots .entry)) memory) slot .link .hello) ⌝ }
 {
-    let x = slot_of(s, slot);
+    let x = slot_of(slots, slot);
     let l = x.link;
     l.hello
 }
 
-pub fn alignment_of(s: Server, slot: usize) -> Alignment
-    ensures { λ r. ⌜ ((memory : List ℕ) → r ≡ rules.slotAt (serverOf s memory) slot .link .alignment) ⌝ }
+pub fn alignment_of(slots: &[usize; 192], slot: usize) -> Alignment
+    ensures { λ r. ⌜ ((s : declared.Server) (memory : List ℕ) → r ≡ rules.slotAt (serverOf s (now (slots .entry)) memory) slot .link .alignment) ⌝ }
 {
-    let x = slot_of(s, slot);
+    let x = slot_of(slots, slot);
     let l = x.link;
     l.alignment
 }
 
 // How many wanted entries found no room in the slot's request list.
-pub fn missed_of(s: Server, slot: usize) -> u16
-    ensures { λ r. ⌜ ((memory : List ℕ) → r ≡ rules.slotAt (serverOf s memory) slot .missed) ⌝ }
+pub fn missed_of(slots: &[usize; 192], slot: usize) -> u16
+    ensures { λ r. ⌜ ((s : declared.Server) (memory : List ℕ) → r ≡ rules.slotAt (serverOf s (now (slots .entry)) memory) slot .missed) ⌝ }
 {
-    let x = slot_of(s, slot);
+    let x = slot_of(slots, slot);
     x.missed
 }
 
 // How many requests the slot holds.
 pub fn requests_of(memory: &[u8; 20800], slot: usize) -> usize
-    ensures { λ r. ⌜ ((s : declared.Server) → r ≡ length (rules.slotAt (serverOf s (now (memory .entry))) slot .requests)) ⌝ }
+    ensures { λ r. ⌜ ((s : declared.Server) (slots : List ℕ) → r ≡ length (rules.slotAt (serverOf s slots (now (memory .entry))) slot .requests)) ⌝ }
 {
     if slot < 8 {
         return requests::count(memory, slot);

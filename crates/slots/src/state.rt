@@ -41,10 +41,10 @@ pub struct Slot {
     pub missed: u16,
 }
 
+// The slots are in a lent table, so that no event copies them all.
 pub struct Server {
     pub settings: Settings,
     pub time: u32,
-    pub slots: [Slot; 8],
 }
 
 // ---- a slot with no peer, and one that was just given one

@@ -74,14 +74,20 @@ fn line(number: u64, a: Answer, memory: &[u8; 20800], out: &[u8; 284]) {
     io::write_all(1, &text[..end]);
 }
 
-fn record(s: Server, memory: &mut [u8; 20800], r: &[u8], number: u64) -> Server {
+fn record(
+    s: Server,
+    slots: &mut [usize; 192],
+    memory: &mut [u8; 20800],
+    r: &[u8],
+    number: u64,
+) -> Server {
     let mut out = [0u8; 284];
-    let a = lines::take::take(s, memory, r, &mut out);
+    let a = lines::take::take(s, slots, memory, r, &mut out);
     line(number, a, memory, &out);
     a.server
 }
 
-fn records(s: Server, memory: &mut [u8; 20800], count: u32) {
+fn records(s: Server, slots: &mut [usize; 192], memory: &mut [u8; 20800], count: u32) {
     let mut input = [0u8; 292];
     let mut x = s;
     let mut i: u32 = 1;
@@ -90,15 +96,15 @@ fn records(s: Server, memory: &mut [u8; 20800], count: u32) {
         if n < 292 {
             return;
         }
-        x = record(x, memory, &input, i as u64);
+        x = record(x, slots, memory, &input, i as u64);
         i += 1;
     }
 }
 
-fn list(memory: &mut [u8; 20800], count: u32) {
+fn list(slots: &mut [usize; 192], memory: &mut [u8; 20800], count: u32) {
     let mut input = [0u8; 292];
     let n = io::read_full(0, &mut input);
-    let first = lines::take::begin(memory, octets::first(&input, n));
+    let first = lines::take::begin(slots, memory, octets::first(&input, n));
     let outcome = first.outcome;
     if !slots::answers::is_taken(outcome) {
         io::write_all(1, &[99u8, 117, 116, 10]);
@@ -106,10 +112,11 @@ fn list(memory: &mut [u8; 20800], count: u32) {
     }
     let out = [0u8; 284];
     line(0, first, memory, &out);
-    records(first.server, memory, count);
+    records(first.server, slots, memory, count);
 }
 
 fn main() {
+    let mut slots = [0usize; 192];
     let mut memory = [0u8; 20800];
     let mut head = [0u8; 4];
     let mut turns = u64::MAX;
@@ -118,7 +125,7 @@ fn main() {
         if n < 4 {
             return;
         }
-        list(&mut memory, octets::field4(&head, 0));
+        list(&mut slots, &mut memory, octets::field4(&head, 0));
         turns -= 1;
     }
 }

@@ -6,7 +6,7 @@ use Rattle.host.proofs.run_in.Statement.{statement}
 use Rattle.host.proofs.run_in.Tie as tie
 
 cast-result : tie.Need-cast-result
-cast-result c = record { fits = omega (arith, few-used (c .before .before .before .before .run .last .0) (c .rows-used .ensures)) }
+cast-result c = record { fits = omega (arith, few-used (c .before .before .before .before .run .last .1 .0) (c .rows-used .ensures)) }
 
 returns : tie.Need-returns
 returns c = ran (c .before .before .before .before .run .ensures) (sym (c .before .before .before .is-taken .ensures) ∙ c .before .before .if1 .taken) (c .rows-used .ensures)

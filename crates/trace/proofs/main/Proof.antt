@@ -6,13 +6,13 @@ use Rattle.trace.proofs.main.Statement.{statement}
 use Rattle.trace.proofs.main.Tie as tie
 
 abbrev Inv-loop : tie.InvT-loop
-Inv-loop memory₀ head₀ turns₀ memory head turns = length head ≡ 4
+Inv-loop slots₀ memory₀ head₀ turns₀ slots memory head turns = length head ≡ 4
 
 abbrev μ-loop : tie.MeasureT-loop
-μ-loop memory₀ head₀ turns₀ memory head turns = turns
+μ-loop slots₀ memory₀ head₀ turns₀ slots memory head turns = turns
 
 loop-again : tie.Need-loop-again Inv-loop μ-loop
-loop-again c = omega (arith, c .before .before .before .before .before .before .read-full .kept)
+loop-again c = omega (arith, c .before .before .before .before .before .before .before .read-full .kept)
 
 pub main-spec : {M : Type 1} → statement M
 main-spec =

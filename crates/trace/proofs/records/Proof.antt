@@ -7,13 +7,13 @@ use Rattle.trace.proofs.records.Statement.{statement}
 use Rattle.trace.proofs.records.Tie as tie
 
 abbrev Inv-loop : tie.InvT-loop
-Inv-loop memory₀ count input₀ x₀ i₀ memory input x i = length input ≡ 292
+Inv-loop slots₀ memory₀ count input₀ x₀ i₀ slots memory input x i = length input ≡ 292
 
 abbrev μ-loop : tie.MeasureT-loop
-μ-loop memory₀ count input₀ x₀ i₀ memory input x i = count - i
+μ-loop slots₀ memory₀ count input₀ x₀ i₀ slots memory input x i = count - i
 
 loop-again : tie.Need-loop-again Inv-loop μ-loop
-loop-again c = omega (arith, c .before .before .before .before .before .read-full .kept)
+loop-again c = omega (arith, c .before .before .before .before .before .before .read-full .kept)
 
 pub records-spec : {M : Type 1} → statement M
 records-spec =

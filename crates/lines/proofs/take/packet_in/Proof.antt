@@ -3,7 +3,7 @@ use Rattle.lines.proofs.take.packet_in.Statement.{statement}
 use Rattle.lines.proofs.take.packet_in.Tie as tie
 
 returns : tie.Need-returns
-returns c = rw (← (c .before .before .before .before .before .before .slot .ensures), ← (c .before .before .before .before .before .time .ensures), ← (c .before .before .before .before .packet .ensures), ← (c .before .before .before .before .before .before .before .before .before .before .pre)) (c .before .before .packet2 .ensures)
+returns c = rw (← (c .before .before .before .before .before .before .slot .ensures), ← (c .before .before .before .before .before .time .ensures), ← (c .before .before .before .before .packet .ensures), ← (c .before .before .before .before .before .before .before .before .before .before .before .pre)) (c .before .before .packet2 .ensures)
 
 pub packet-in-spec : {M : Type 1} → statement M
 packet-in-spec =

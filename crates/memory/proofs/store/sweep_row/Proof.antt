@@ -1,4 +1,4 @@
-use Rattle.memory.proofs.RowSweep.{swept-free, swept-same, swept-stays, same-memory}
+use Rattle.memory.proofs.RowSweep.{swept-free, swept-same, stays-put}
 use Rattle.memory.specs.Search.{withRow}
 use Rattle.memory.specs.Memory.{rowIn}
 use Rattle.rules.specs.Server.{Row}
@@ -8,25 +8,19 @@ use Rattle.memory.proofs.store.sweep_row.Statement.{statement}
 use Rattle.memory.proofs.store.sweep_row.Tie as tie
 
 returns : tie.Need-returns
-returns c = let a = c .before .before .before .args in same-memory (a .memory .now) (a .i) (c .before .before .before .pre .1) ∙ ap (λ (r : Row). withRow (a .memory .now) (a .i) r) (sym (swept-stays (a .memory .now) (a .i) (λ j. c .before .slice-known2 .given j .fits) (c .if1 .taken)))
+returns c =
+    let a = c .before .before .before .before .before .before .before .before .args in
+    c .before .before .free-at .ensures
+    ∙ ap (λ (r : Row). withRow (a .memory .now) (a .i) r)
+    (sym (swept-free (rowIn (a .memory .now) (a .i)) (c .before .before .before .before .before .is-gone .ensures) (c .before .before .before .before .if1 .taken)))
 
 returns-2 : tie.Need-returns-2
-returns-2 c = let a = c .before .before .before .before .before .before .before .before .before .before .args in c .before .before .free-at .ensures ∙ ap (λ (r : Row). withRow (a .memory .now) (a .i) r) (sym (swept-free (rowIn (a .memory .now) (a .i)) (c .before .before .before .before .before .is-gone .ensures) (c .before .before .before .before .if2 .taken)))
-
-returns-3 : tie.Need-returns-3
-returns-3 c = let a = c .before .before .before .before .before .before .args in same-memory (a .memory .now) (a .i) (c .before .before .before .before .before .before .pre .1) ∙ ap (λ (r : Row). withRow (a .memory .now) (a .i) r) (sym (swept-same (rowIn (a .memory .now) (a .i)) (c .before .is-gone .ensures) (c .if2 .left)))
+returns-2 c =
+    let s = c .before .before .before .before in
+    stays-put (s .args .memory .now) (s .args .i) (s .pre .1)
+    (swept-same (rowIn (s .args .memory .now) (s .args .i)) (c .before .is-gone .ensures) (c .if1 .left))
 
 pub sweep-row-spec : {M : Type 1} → statement M
 sweep-row-spec =
     tie.close
-    (tie.spec
-    (λ c. search needs)
-    (λ c. search needs)
-    (λ c. search needs)
-    returns
-    (λ c κs. search needs)
-    (λ c κs. search needs)
-    (λ c. search needs)
-    returns-2
-    (λ c. search needs)
-    returns-3)
+    (tie.spec (λ c κs. search needs) (λ c κs. search needs) (λ c. search needs) returns (λ c. search needs) returns-2)

@@ -1,30 +1,29 @@
 use Rattle.server.proofs.CodeLaws.{code-above, code-unused, code-early, code-none}
-use Rattle.slots.specs.declared.state.Slot.{Slot}
 use borrow.Author.Tests.{not-true, not-false}
-use mathlib.Core.Path.{sym, ap, _∙_}
+use mathlib.Core.Path.{sym, _∙_}
 use borrow.Author.Needs.{needs}
 use Rattle.server.proofs.answers.link_code.Statement.{statement}
 use Rattle.server.proofs.answers.link_code.Tie as tie
 
 returns : tie.Need-returns
 returns c = λ m.
-    let a = c .before .args in
-    code-above (a .s) (a .k) (a .time) m (c .if1 .taken)
+    let a = c .before .before .args in
+    code-above (a .s) (a .slots .now) (a .k) (a .time) m (c .if1 .taken)
 
 returns-2 : tie.Need-returns-2
 returns-2 c = λ m.
     let a = c .before .before .before .before .args in
-    code-unused (a .s) (a .k) (a .time) m (c .before .before .before .if1 .left) (sym (ap (λ (x : Slot). x .used) (c .before .before .slot-at .ensures)) ∙ not-true (c .before .before .slot-at .result .used) (c .if2 .taken))
+    code-unused (a .s) (a .slots .now) (a .k) (a .time) m (c .before .before .if1 .left) (sym (c .before .used-at .ensures) ∙ not-true (c .before .used-at .result) (c .if2 .taken))
 
 returns-3 : tie.Need-returns-3
 returns-3 c = λ m.
     let a = c .before .before .before .before .before .before .args in
-    code-early (a .s) (a .k) (a .time) m (c .before .before .before .before .before .if1 .left) (sym (ap (λ (x : Slot). x .used) (c .before .before .before .before .slot-at .ensures)) ∙ not-false (c .before .before .before .before .slot-at .result .used) (c .before .before .if2 .left)) (c .if3 .taken)
+    code-early (a .s) (a .slots .now) (a .k) (a .time) m (c .before .before .before .before .if1 .left) (sym (c .before .before .before .used-at .ensures) ∙ not-false (c .before .before .before .used-at .result) (c .before .before .if2 .left)) (c .if3 .taken)
 
 returns-4 : tie.Need-returns-4
 returns-4 c = λ m.
     let a = c .before .before .before .before .before .before .args in
-    code-none (a .s) (a .k) (a .time) m (c .before .before .before .before .before .if1 .left) (sym (ap (λ (x : Slot). x .used) (c .before .before .before .before .slot-at .ensures)) ∙ not-false (c .before .before .before .before .slot-at .result .used) (c .before .before .if2 .left)) (c .if3 .left)
+    code-none (a .s) (a .slots .now) (a .k) (a .time) m (c .before .before .before .before .if1 .left) (sym (c .before .before .before .used-at .ensures) ∙ not-false (c .before .before .before .used-at .result) (c .before .before .if2 .left)) (c .if3 .left)
 
 pub link-code-spec : {M : Type 1} → statement M
 link-code-spec = tie.close (tie.spec returns (λ c κs. search needs) returns-2 returns-3 returns-4)

@@ -10,15 +10,15 @@ use Rattle.server.proofs.own.purge.Tie as tie
 returns : tie.Need-returns
 unfolding codeOf
 returns c =
-    let a = c .before .before .before .before .before .before .before .before .args in
+    let a = c .before .before .before .before .before .before .before .before .before .args in
     let f = c .before .before .f .given in
-    does-refused (events.purge (a .key .now)) (a .s) (a .memory .now) (λ _. refl) (c .before .before .before .before .purge-code .result) (f .0 .0) (c .refuse .result) (c .before .before .before .before .purge-code .ensures) (f .1) (c .refuse .ensures)
+    does-refused (events.purge (a .key .now)) (a .s) (a .slots .now) (a .memory .now) (λ _. refl) (c .before .before .before .before .purge-code .result) (f .0 .0) (c .refuse .result) (c .before .before .before .before .purge-code .ensures (a .slots .now)) (f .1) (c .refuse .ensures)
 
 returns-2 : tie.Need-returns-2
 returns-2 c =
-    let a = c .before .before .before .before .before .before .before .before .before .before .before .args in
-    purge-does (a .s) (a .memory .now) (c .before .before .before .purge-taken .last .1 .0) (a .key .now) (c .before .before .before .before .before .before .before .purge-code .result) (c .take .result) (c .before .before .before .before .before .enum-told .given .1) (c .take .ensures)
-    (c .before .before .before .before .before .before .before .purge-code .ensures) (c .before .before .before .purge-taken .ensures)
+    let a = c .before .before .before .before .before .before .before .before .before .before .before .before .args in
+    purge-does (a .s) (a .slots .now) (a .memory .now) (c .before .before .before .purge-taken .last .1 .1 .0) (a .key .now) (c .before .before .before .before .before .before .before .purge-code .result) (c .take .result) (c .before .before .before .before .before .enum-told .given .1) (c .take .ensures)
+    (c .before .before .before .before .before .before .before .purge-code .ensures (a .slots .now)) (c .before .before .before .purge-taken .ensures)
 
 pub purge-spec : {M : Type 1} → statement M
 purge-spec =

@@ -12,24 +12,24 @@ key-ok : (c : tie.Else1) → keyGood (c .before .before .before .before .args .k
 key-ok c = sym (c .before .key-good .ensures) ∙ not-false (c .before .key-good .result) (c .if1 .left)
 
 returns : tie.Need-returns
-returns c =
+returns c = λ slots.
     let a = c .before .before .before .before .args in
-    purge-key (serverOf (a .s) (a .memory .now)) (a .key .now) (sym (c .before .key-good .ensures) ∙ not-true (c .before .key-good .result) (c .if1 .taken))
+    purge-key (serverOf (a .s) slots (a .memory .now)) (a .key .now) (sym (c .before .key-good .ensures) ∙ not-true (c .before .key-good .result) (c .if1 .taken))
 
 returns-2 : tie.Need-returns-2
-returns-2 c =
+returns-2 c = λ slots.
     let a = c .before .before .before .before .before .before .before .before .before .before .args in
-    purge-absent (serverOf (a .s) (a .memory .now)) (a .key .now) (key-ok (c .before .before .before .before .before .before)) (c .before .before .own-of .result) (c .before .before .own-of .ensures) (not-true (c .before .before .own-of .result .held) (c .if2 .taken))
+    purge-absent (serverOf (a .s) slots (a .memory .now)) (a .key .now) (key-ok (c .before .before .before .before .before .before)) (c .before .before .own-of .result) (c .before .before .own-of .ensures) (not-true (c .before .before .own-of .result .held) (c .if2 .taken))
 
 returns-3 : tie.Need-returns-3
-returns-3 c =
+returns-3 c = λ slots.
     let a = c .before .before .before .before .before .before .before .before .before .before .before .args in
-    purge-purged (serverOf (a .s) (a .memory .now)) (a .key .now) (key-ok (c .before .before .before .before .before .before .before)) (c .before .before .before .own-of .result) (c .before .before .before .own-of .ensures) (not-false (c .before .before .before .own-of .result .held) (c .before .if2 .left)) (c .if3 .taken)
+    purge-purged (serverOf (a .s) slots (a .memory .now)) (a .key .now) (key-ok (c .before .before .before .before .before .before .before)) (c .before .before .before .own-of .result) (c .before .before .before .own-of .ensures) (not-false (c .before .before .before .own-of .result .held) (c .before .if2 .left)) (c .if3 .taken)
 
 returns-4 : tie.Need-returns-4
-returns-4 c =
+returns-4 c = λ slots.
     let a = c .before .before .before .before .before .before .before .before .before .before .before .args in
-    purge-taken (serverOf (a .s) (a .memory .now)) (a .key .now) (key-ok (c .before .before .before .before .before .before .before)) (c .before .before .before .own-of .result) (c .before .before .before .own-of .ensures) (not-false (c .before .before .before .own-of .result .held) (c .before .if2 .left)) (c .if3 .left)
+    purge-taken (serverOf (a .s) slots (a .memory .now)) (a .key .now) (key-ok (c .before .before .before .before .before .before .before)) (c .before .before .before .own-of .result) (c .before .before .before .own-of .ensures) (not-false (c .before .before .before .own-of .result .held) (c .before .if2 .left)) (c .if3 .left)
 
 pub purge-code-spec : {M : Type 1} → statement M
 purge-code-spec =

@@ -10,9 +10,9 @@ use Rattle.server.proofs.own.purge_taken.Tie as tie
 
 returns : tie.Need-returns
 returns c =
-    let a = c .before .before .before .before .before .before .before .before .before .before .before .before .before .before .args in
+    let a = c .before .before .before .before .before .before .before .before .before .before .before .before .before .before .before .args in
     swept-after (λ live. purgeRows live (entry (a .key .now) (a .s .settings .id))) (a .memory .now) (c .before .before .before .before .before .before .purge-entry .last .0) (c .before .before .sweep .last .0)
-    (isMarked (c .before .before .before .before .before .before .before .before .live-of .result)) (liveIn (slotsOf (a .s .slots) (a .memory .now))) (c .before .before .before .before .before .before .before .before .live-of .ensures (a .memory .now)) (c .before .before .before .before .before .before .purge-entry .ensures .0) (c .before .before .sweep .ensures)
+    (isMarked (c .before .before .before .before .before .before .before .before .live-of .result)) (liveIn (slotsOf (a .slots .now) (a .memory .now))) (c .before .before .before .before .before .before .before .before .live-of .ensures (a .memory .now)) (c .before .before .before .before .before .before .purge-entry .ensures .0) (c .before .before .sweep .ensures)
 
 pub purge-taken-spec : {M : Type 1} → statement M
 purge-taken-spec =

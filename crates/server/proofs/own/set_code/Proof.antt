@@ -15,34 +15,34 @@ payload-ok : (c : tie.Else2) → payloadGood (c .before .before .before .before 
 payload-ok c = sym (c .before .payload-good .ensures) ∙ not-false (c .before .payload-good .result) (c .if2 .left)
 
 returns : tie.Need-returns
-returns c =
+returns c = λ slots.
     let a = c .before .before .before .before .before .args in
-    set-key (serverOf (a .s) (a .memory .now)) (a .key .now) (a .payload .now) (sym (c .before .key-good .ensures) ∙ not-true (c .before .key-good .result) (c .if1 .taken))
+    set-key (serverOf (a .s) slots (a .memory .now)) (a .key .now) (a .payload .now) (sym (c .before .key-good .ensures) ∙ not-true (c .before .key-good .result) (c .if1 .taken))
 
 returns-2 : tie.Need-returns-2
-returns-2 c =
+returns-2 c = λ slots.
     let a = c .before .before .before .before .before .before .before .args in
-    set-payload (serverOf (a .s) (a .memory .now)) (a .key .now) (key-ok (c .before .before)) (a .payload .now) (sym (c .before .payload-good .ensures) ∙ not-true (c .before .payload-good .result) (c .if2 .taken))
+    set-payload (serverOf (a .s) slots (a .memory .now)) (a .key .now) (key-ok (c .before .before)) (a .payload .now) (sym (c .before .payload-good .ensures) ∙ not-true (c .before .payload-good .result) (c .if2 .taken))
 
 returns-3 : tie.Need-returns-3
-returns-3 c =
+returns-3 c = λ slots.
     let a = c .before .before .before .before .before .before .before .before .before .before .before .before .args in
-    set-spent (serverOf (a .s) (a .memory .now)) (a .key .now) (key-ok (c .before .before .before .before .before .before .before)) (c .before .own-of .result) (c .before .own-of .ensures) (a .payload .now) (payload-ok (c .before .before .before .before .before)) (c .if3 .taken)
+    set-spent (serverOf (a .s) slots (a .memory .now)) (a .key .now) (key-ok (c .before .before .before .before .before .before .before)) (c .before .own-of .result) (c .before .own-of .ensures) (a .payload .now) (payload-ok (c .before .before .before .before .before)) (c .if3 .taken)
 
 returns-4 : tie.Need-returns-4
-returns-4 c =
+returns-4 c = λ slots.
     let a = c .before .before .before .before .before .before .before .before .before .before .before .before .before .args in
-    set-held (serverOf (a .s) (a .memory .now)) (a .key .now) (key-ok (c .before .before .before .before .before .before .before .before)) (c .before .before .own-of .result) (c .before .before .own-of .ensures) (a .payload .now) (payload-ok (c .before .before .before .before .before .before)) (c .before .if3 .left) (c .if4 .taken)
+    set-held (serverOf (a .s) slots (a .memory .now)) (a .key .now) (key-ok (c .before .before .before .before .before .before .before .before)) (c .before .before .own-of .result) (c .before .before .own-of .ensures) (a .payload .now) (payload-ok (c .before .before .before .before .before .before)) (c .before .if3 .left) (c .if4 .taken)
 
 returns-5 : tie.Need-returns-5
-returns-5 c =
+returns-5 c = λ slots.
     let a = c .before .before .before .before .before .before .before .before .before .before .before .before .before .before .before .args in
-    set-new (serverOf (a .s) (a .memory .now)) (a .key .now) (key-ok (c .before .before .before .before .before .before .before .before .before .before)) (c .before .before .before .before .own-of .result) (c .before .before .before .before .own-of .ensures) (a .payload .now) (payload-ok (c .before .before .before .before .before .before .before .before)) (c .before .before .before .if3 .left) (c .before .before .if4 .left) (sym (c .before .has-free .ensures) ∙ c .if5 .taken)
+    set-new (serverOf (a .s) slots (a .memory .now)) (a .key .now) (key-ok (c .before .before .before .before .before .before .before .before .before .before)) (c .before .before .before .before .own-of .result) (c .before .before .before .before .own-of .ensures) (a .payload .now) (payload-ok (c .before .before .before .before .before .before .before .before)) (c .before .before .before .if3 .left) (c .before .before .if4 .left) (sym (c .before .has-free .ensures) ∙ c .if5 .taken)
 
 returns-6 : tie.Need-returns-6
-returns-6 c =
+returns-6 c = λ slots.
     let a = c .before .before .before .before .before .before .before .before .before .before .before .before .before .before .before .args in
-    set-full (serverOf (a .s) (a .memory .now)) (a .key .now) (key-ok (c .before .before .before .before .before .before .before .before .before .before)) (c .before .before .before .before .own-of .result) (c .before .before .before .before .own-of .ensures) (a .payload .now) (payload-ok (c .before .before .before .before .before .before .before .before)) (c .before .before .before .if3 .left) (c .before .before .if4 .left) (sym (c .before .has-free .ensures) ∙ c .if5 .left)
+    set-full (serverOf (a .s) slots (a .memory .now)) (a .key .now) (key-ok (c .before .before .before .before .before .before .before .before .before .before)) (c .before .before .before .before .own-of .result) (c .before .before .before .before .own-of .ensures) (a .payload .now) (payload-ok (c .before .before .before .before .before .before .before .before)) (c .before .before .before .if3 .left) (c .before .before .if4 .left) (sym (c .before .has-free .ensures) ∙ c .if5 .left)
 
 pub set-code-spec : {M : Type 1} → statement M
 set-code-spec =

@@ -4,7 +4,7 @@ use borrow.Author.Tests.{not-true, not-false}
 use borrow.Author.Needs.{needs}
 use Rattle.rules.specs.Refusals.{keyGood}
 use Rattle.server.specs.State.{serverOf}
-use Rattle.server.proofs.OwnLaws.{withdraw-key, withdraw-absent, withdraw-empty, withdraw-spent, withdraw-taken}
+use Rattle.server.proofs.OwnLaws.{withdraw-key, withdraw-empty, withdraw-spent, withdraw-taken}
 use Rattle.server.proofs.own.withdraw_code.Statement.{statement}
 use Rattle.server.proofs.own.withdraw_code.Tie as tie
 
@@ -12,29 +12,24 @@ key-ok : (c : tie.Else1) → keyGood (c .before .before .before .before .args .k
 key-ok c = sym (c .before .key-good .ensures) ∙ not-false (c .before .key-good .result) (c .if1 .left)
 
 returns : tie.Need-returns
-returns c =
+returns c = λ slots.
     let a = c .before .before .before .before .args in
-    withdraw-key (serverOf (a .s) (a .memory .now)) (a .key .now) (sym (c .before .key-good .ensures) ∙ not-true (c .before .key-good .result) (c .if1 .taken))
+    withdraw-key (serverOf (a .s) slots (a .memory .now)) (a .key .now) (sym (c .before .key-good .ensures) ∙ not-true (c .before .key-good .result) (c .if1 .taken))
 
 returns-2 : tie.Need-returns-2
-returns-2 c =
-    let a = c .before .before .before .before .before .before .before .before .before .before .args in
-    withdraw-absent (serverOf (a .s) (a .memory .now)) (a .key .now) (key-ok (c .before .before .before .before .before .before)) (c .before .before .own-of .result) (c .before .before .own-of .ensures) (not-true (c .before .before .own-of .result .held) (c .if2 .taken))
+returns-2 c = λ slots.
+    let a = c .before .before .before .before .before .before .before .before .before .args in
+    withdraw-empty (serverOf (a .s) slots (a .memory .now)) (a .key .now) (key-ok (c .before .before .before .before .before)) (c .before .own-of .result) (c .before .own-of .ensures) (c .if2 .taken)
 
 returns-3 : tie.Need-returns-3
-returns-3 c =
-    let a = c .before .before .before .before .before .before .before .before .before .before .before .args in
-    withdraw-empty (serverOf (a .s) (a .memory .now)) (a .key .now) (key-ok (c .before .before .before .before .before .before .before)) (c .before .before .before .own-of .result) (c .before .before .before .own-of .ensures) (not-false (c .before .before .before .own-of .result .held) (c .before .if2 .left)) (c .if3 .taken)
+returns-3 c = λ slots.
+    let a = c .before .before .before .before .before .before .before .before .before .before .args in
+    withdraw-spent (serverOf (a .s) slots (a .memory .now)) (a .key .now) (key-ok (c .before .before .before .before .before .before)) (c .before .before .own-of .result) (c .before .before .own-of .ensures) (c .before .if2 .left) (c .if3 .taken)
 
 returns-4 : tie.Need-returns-4
-returns-4 c =
-    let a = c .before .before .before .before .before .before .before .before .before .before .before .before .args in
-    withdraw-spent (serverOf (a .s) (a .memory .now)) (a .key .now) (key-ok (c .before .before .before .before .before .before .before .before)) (c .before .before .before .before .own-of .result) (c .before .before .before .before .own-of .ensures) (not-false (c .before .before .before .before .own-of .result .held) (c .before .before .if2 .left)) (c .before .if3 .left) (c .if4 .taken)
-
-returns-5 : tie.Need-returns-5
-returns-5 c =
-    let a = c .before .before .before .before .before .before .before .before .before .before .before .before .args in
-    withdraw-taken (serverOf (a .s) (a .memory .now)) (a .key .now) (key-ok (c .before .before .before .before .before .before .before .before)) (c .before .before .before .before .own-of .result) (c .before .before .before .before .own-of .ensures) (not-false (c .before .before .before .before .own-of .result .held) (c .before .before .if2 .left)) (c .before .if3 .left) (c .if4 .left)
+returns-4 c = λ slots.
+    let a = c .before .before .before .before .before .before .before .before .before .before .args in
+    withdraw-taken (serverOf (a .s) slots (a .memory .now)) (a .key .now) (key-ok (c .before .before .before .before .before .before)) (c .before .before .own-of .result) (c .before .before .own-of .ensures) (c .before .if2 .left) (c .if3 .left)
 
 pub withdraw-code-spec : {M : Type 1} → statement M
 withdraw-code-spec =
@@ -46,5 +41,4 @@ withdraw-code-spec =
     (λ c κs. search needs)
     returns-2
     returns-3
-    returns-4
-    returns-5)
+    returns-4)

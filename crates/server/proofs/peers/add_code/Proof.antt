@@ -1,40 +1,39 @@
 use Rattle.server.proofs.PeerLaws.{add-above, add-size, add-used, add-own, add-tried}
-use Rattle.slots.specs.declared.state.Slot.{Slot}
 use mathlib.Core.Bool.{true, false}
-use mathlib.Core.Path.{sym, ap, _∙_}
+use mathlib.Core.Path.{sym, _∙_}
 use borrow.Author.Needs.{needs}
 use Rattle.server.proofs.peers.add_code.Statement.{statement}
 use Rattle.server.proofs.peers.add_code.Tie as tie
 
 returns : tie.Need-returns
 returns c = λ m.
-    let a = c .before .before .args in
-    add-above (a .s) (a .k) (a .id .now) m (c .if1 .taken)
+    let a = c .before .before .before .args in
+    add-above (a .s) (a .slots .now) (a .k) (a .id .now) m (c .if1 .taken)
 
 returns-2 : tie.Need-returns-2
 returns-2 c = λ m.
-    let a = c .before .before .before .args in
-    add-size (a .s) (a .k) (a .id .now) m (c .before .if1 .left) (c .if2 .taken)
+    let a = c .before .before .before .before .args in
+    add-size (a .s) (a .slots .now) (a .k) (a .id .now) m (c .before .if1 .left) (c .if2 .taken)
 
 returns-3 : tie.Need-returns-3
 returns-3 c = λ m.
-    let a = c .before .before .before .before .before .args in
-    add-used (a .s) (a .k) (a .id .now) m (c .before .before .before .if1 .left) (c .before .before .if2 .left) (sym (ap (λ (x : Slot). x .used) (c .before .slot-at .ensures)) ∙ c .if3 .taken)
+    let a = c .before .before .before .before .before .before .args in
+    add-used (a .s) (a .slots .now) (a .k) (a .id .now) m (c .before .before .before .if1 .left) (c .before .before .if2 .left) (sym (c .before .used-at .ensures) ∙ c .if3 .taken)
 
 returns-4 : tie.Need-returns-4
 returns-4 c = λ m.
-    let a = c .before .before .before .before .before .before .before .before .before .before .args in
-    add-own (a .s) (a .k) (a .id .now) m (c .before .before .before .before .before .before .before .before .if1 .left) (c .before .before .before .before .before .before .before .if2 .left) (sym (ap (λ (x : Slot). x .used) (c .before .before .before .before .before .before .slot-at .ensures)) ∙ c .before .before .before .before .before .if3 .left) (sym (c .before .same .ensures) ∙ c .if4 .taken)
+    let a = c .before .before .before .before .before .before .before .before .before .before .before .args in
+    add-own (a .s) (a .slots .now) (a .k) (a .id .now) m (c .before .before .before .before .before .before .before .before .if1 .left) (c .before .before .before .before .before .before .before .if2 .left) (sym (c .before .before .before .before .before .before .used-at .ensures) ∙ c .before .before .before .before .before .if3 .left) (sym (c .before .same .ensures) ∙ c .if4 .taken)
 
 returns-5 : tie.Need-returns-5
 returns-5 c = λ m.
-    let a = c .before .before .before .before .before .before .before .before .before .before .before .before .args in
-    add-tried (a .s) (a .k) (a .id .now) m (c .before .before .before .before .before .before .before .before .before .before .if1 .left) (c .before .before .before .before .before .before .before .before .before .if2 .left) (sym (ap (λ (x : Slot). x .used) (c .before .before .before .before .before .before .before .before .slot-at .ensures)) ∙ c .before .before .before .before .before .before .before .if3 .left) true (sym (c .before .before .before .same .ensures) ∙ c .before .before .if4 .left) (sym (c .if5 .taken) ∙ c .before .has-peer .ensures m)
+    let a = c .before .before .before .before .before .before .before .before .before .before .before .before .before .args in
+    add-tried (a .s) (a .slots .now) (a .k) (a .id .now) m (c .before .before .before .before .before .before .before .before .before .before .if1 .left) (c .before .before .before .before .before .before .before .before .before .if2 .left) (sym (c .before .before .before .before .before .before .before .before .used-at .ensures) ∙ c .before .before .before .before .before .before .before .if3 .left) true (sym (c .before .before .before .same .ensures) ∙ c .before .before .if4 .left) (sym (c .if5 .taken) ∙ c .before .has-peer .ensures m)
 
 returns-6 : tie.Need-returns-6
 returns-6 c = λ m.
-    let a = c .before .before .before .before .before .before .before .before .before .before .before .before .args in
-    add-tried (a .s) (a .k) (a .id .now) m (c .before .before .before .before .before .before .before .before .before .before .if1 .left) (c .before .before .before .before .before .before .before .before .before .if2 .left) (sym (ap (λ (x : Slot). x .used) (c .before .before .before .before .before .before .before .before .slot-at .ensures)) ∙ c .before .before .before .before .before .before .before .if3 .left) false (sym (c .before .before .before .same .ensures) ∙ c .before .before .if4 .left) (sym (c .if5 .left) ∙ c .before .has-peer .ensures m)
+    let a = c .before .before .before .before .before .before .before .before .before .before .before .before .before .args in
+    add-tried (a .s) (a .slots .now) (a .k) (a .id .now) m (c .before .before .before .before .before .before .before .before .before .before .if1 .left) (c .before .before .before .before .before .before .before .before .before .if2 .left) (sym (c .before .before .before .before .before .before .before .before .used-at .ensures) ∙ c .before .before .before .before .before .before .before .if3 .left) false (sym (c .before .before .before .same .ensures) ∙ c .before .before .if4 .left) (sym (c .if5 .left) ∙ c .before .has-peer .ensures m)
 
 pub add-code-spec : {M : Type 1} → statement M
 add-code-spec =

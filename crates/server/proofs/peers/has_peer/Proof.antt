@@ -1,18 +1,15 @@
 use Rattle.server.proofs.PeerLaws.{RestTells, peer-here, peer-later, peer-nowhere}
-use Rattle.slots.specs.declared.state.Slot.{Slot}
-use Rattle.laws.specs.Tables.{same}
-use mathlib.Core.Bool.{_&&_}
-use mathlib.Core.Path.{refl, sym, ap, _∙_}
+use mathlib.Core.Path.{refl, sym, _∙_}
 use Prim.Native.Nat.{_≤_, _-_}
 use borrow.Author.Needs.{needs}
 use Rattle.server.proofs.peers.has_peer.Statement.{statement}
 use Rattle.server.proofs.peers.has_peer.Tie as tie
 
 abbrev Inv-loop : tie.InvT-loop
-Inv-loop s id k₀ k = (k ≤ 8) × RestTells (s .slots) id k
+Inv-loop slots id k₀ k = (k ≤ 8) × RestTells slots id k
 
 abbrev μ-loop : tie.MeasureT-loop
-μ-loop s id k₀ k = 8 - k
+μ-loop slots id k₀ k = 8 - k
 
 loop-holds : tie.Need-loop-holds Inv-loop μ-loop
 loop-holds c = (search needs, λ m. refl)
@@ -20,20 +17,20 @@ loop-holds c = (search needs, λ m. refl)
 returns : tie.Need-returns Inv-loop μ-loop
 returns c =
     let a = c .before .before .before .before .before .before .args in
-    let l = c .before .before .before .before .loop in
-    peer-here (a .s .slots) (a .id .now) (l .k) (c .before .before .before .loop-test .taken) (l .inv .1) (sym (ap (λ (x : Slot). x .used && same (x .peer) (a .id .now)) (c .before .before .slot-at .ensures)) ∙ sym (c .before .is-peer .ensures) ∙ c .if1 .taken)
+    let l = c .before .before .before .loop in
+    peer-here (a .slots .now) (a .id .now) (l .k) (c .before .before .loop-test .taken) (l .inv .1) (sym (c .before .is-peer .ensures) ∙ c .if1 .taken)
 
 loop-again : tie.Need-loop-again Inv-loop μ-loop
 loop-again c =
     let a = c .before .before .before .before .before .before .args in
-    let l = c .before .before .before .before .loop in
-    (search needs, peer-later (a .s .slots) (a .id .now) (l .k) (c .before .before .before .loop-test .taken) (l .inv .1) (sym (ap (λ (x : Slot). x .used && same (x .peer) (a .id .now)) (c .before .before .slot-at .ensures)) ∙ sym (c .before .is-peer .ensures) ∙ c .if1 .left))
+    let l = c .before .before .before .loop in
+    (search needs, peer-later (a .slots .now) (a .id .now) (l .k) (c .before .before .loop-test .taken) (l .inv .1) (sym (c .before .is-peer .ensures) ∙ c .if1 .left))
 
 returns-2 : tie.Need-returns-2 Inv-loop μ-loop
 returns-2 c =
-    let a = c .before .before .before .args in
+    let a = c .before .before .before .before .args in
     let l = c .before .loop in
-    peer-nowhere (a .s .slots) (a .id .now) (l .k) (c .loop-test .left) (l .inv .1)
+    peer-nowhere (a .slots .now) (a .id .now) (l .k) (c .loop-test .left) (l .inv .1)
 
 pub has-peer-spec : {M : Type 1} → statement M
 has-peer-spec =
@@ -42,7 +39,6 @@ has-peer-spec =
     Inv-loop
     μ-loop
     loop-holds
-    (λ c κs. search needs)
     (λ c κs. search needs)
     returns
     (λ c. search needs)
