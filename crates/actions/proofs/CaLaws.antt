@@ -23,6 +23,7 @@ use Rattle.rules.specs.Requests.{Wanted, allTakenIn}
 use Rattle.rules.specs.Slots.{toPeer, withLink, withKept, withListed, withRequests, caSent, emptied, moved, alignedIf, completed}
 use Rattle.rules.specs.Sent.{packet, octetsOf}
 use Rattle.rules.specs.Alignment.{CaPacket, summaryRecord, answerFrom, answerTo, answerMore, caFlags, caSentBy, wantedOf, withWanted, taking, keeping, answering, caSlot}
+use Rattle.rules.proofs.Forget.{enters-same, moved-link}
 use Rattle.memory.specs.declared.next.Picks.{Picks}
 use Rattle.memory.specs.Memory as memories
 use Rattle.memory.specs.Memory.{rowsIn, keptIn, Memory, memoryOf, requestsOf, keptOf}
@@ -122,13 +123,6 @@ enters-live a Negotiate h = absurd (false≢true h)
 enters-live a (Summarize r) h = in-summarize a r
 enters-live a Update h = in-update a
 enters-live a Aligned h = in-aligned a
-
-enters-same : (a : Alignment) → enters a a ≡ false
-enters-same Down = refl
-enters-same Negotiate = refl
-enters-same (Summarize r) = refl
-enters-same Update = refl
-enters-same Aligned = refl
 
 moved-live : (l : Link) (x : rules.Slot) → isLive (l .alignment) ≡ true → moved l x ≡ withLink l x
 moved-live l x h =
@@ -319,10 +313,6 @@ module _ (k time : ℕ) (s : rules.Settings) (c : CaPacket) (x : Slot) (before :
       (enters-live (x .link .alignment) (slotAfter masterDone .link .alignment) (done-live (rowsIn before) c (slotWith x k before)))
       (silent-acts (slotAfter masterDone) (rowsIn before) y after out r h l))
 
-  moved-link : (l : Link) (b : Bool) → pick b (emptied (withLink l (slotWith x k before))) (withLink l (slotWith x k before)) .link ≡ l
-  moved-link l true = refl
-  moved-link l false = refl
-
   pub takes-restart : (u : CaRule) (l : Link) (y : Slot) (after out : List ℕ) (r : Acted) → u ≡ restart → l ≡ negotiating (x .link)
       → Moves k l x before after y → r ≡ record { slot = y; written = 0 } → TakesCa u k time s c x before after out out r
   takes-restart u l y after out r e el m h =
@@ -332,4 +322,4 @@ module _ (k time : ℕ) (s : rules.Settings) (c : CaPacket) (x : Slot) (before :
       (silent-acts (slotAfter restart) (clearedIf (enters (x .link .alignment) (slotAfter restart .link .alignment)) k (rowsIn before)) y after out r h
       (leaves-as M (slotAfter restart) (clearedIf (enters (x .link .alignment) (slotAfter restart .link .alignment)) k (rowsIn before)) refl
       (ap (λ (z : Link). clearedIf (enters (x .link .alignment) (z .alignment)) k (rowsIn before))
-      (sym (moved-link n (enters (x .link .alignment) (n .alignment)))))))
+      (sym (moved-link n (slotWith x k before))))))

@@ -8,17 +8,18 @@ use mathlib.Core.List.{List, []}
 use Rattle.laws.specs.Choice.{pick}
 use Rattle.protocol.specs.declared.HelloState.the-variants.{Waiting}
 use Rattle.protocol.specs.declared.Alignment.{Alignment}
-use Rattle.protocol.specs.declared.Alignment.the-variants.{Down, Negotiate, Summarize, Update, Aligned}
+use Rattle.protocol.specs.declared.Alignment.the-variants.{Down}
 use Rattle.protocol.specs.declared.Link.{Link}
 use Rattle.protocol.specs.Hello.{stale}
 use Rattle.rules.specs.Server as rules
 use Rattle.rules.specs.Server.{Row}
 use Rattle.rules.specs.Links.{hearsPeer, isPast, enters, toOther, checkMove}
 use Rattle.rules.specs.Rows.{clearedIf}
-use Rattle.rules.specs.Slots.{passed, withLink, withKept, emptied}
+use Rattle.rules.specs.Slots.{passed, withKept}
 use Rattle.rules.specs.Sent.{Sent, octetsOf}
 use Rattle.rules.specs.Poll as poll
 use Rattle.rules.specs.Poll.{caInterval, dueIn, slotBy, sentBy, keptDropped, checked, pollSlot, pollSent}
+use Rattle.rules.proofs.Forget.{enters-same, moved-link}
 use Rattle.memory.specs.Memory.{rowsIn, memoryOf}
 use Rattle.memory.specs.Memory as memories
 use Rattle.slots.specs.declared.state.Slot.{Slot}
@@ -47,10 +48,6 @@ kept-link : (y : rules.Slot) (b : Bool) → pick b (withKept [] y) y .link ≡ y
 kept-link y true = refl
 kept-link y false = refl
 
-moved-link : (l : Link) (x : rules.Slot) (b : Bool) → pick b (emptied (withLink l x)) (withLink l x) .link ≡ l
-moved-link l x true = refl
-moved-link l x false = refl
-
 by-link : (d : poll.Due) (s : rules.Settings) (now : ℕ) (rows : List Row) (k : ℕ) (y : rules.Slot) → slotBy d s now rows k y .link ≡ y .link
 by-link poll.none s now rows k y = refl
 by-link poll.aHello s now rows k y = refl
@@ -60,16 +57,9 @@ by-link poll.aCsus s now rows k y = refl
 by-link poll.anUpdate s now rows k y = refl
 
 -- ---- the check enters nothing, or Down
-stays : (a : Alignment) → enters a a ≡ false
-stays Down = refl
-stays Negotiate = refl
-stays (Summarize r) = refl
-stays Update = refl
-stays Aligned = refl
-
 tells : (l : Link) (b : Bool) → (enters (l .alignment) (pick b (toOther Waiting l) l .alignment) ≡ false) ⊎ (pick b (toOther Waiting l) l .alignment ≡ Down)
 tells l true = inr refl
-tells l false = inl (stays (l .alignment))
+tells l false = inl (enters-same (l .alignment))
 
 -- ---- what is due, over other rows
 module _ (s : rules.Settings) (now k : ℕ) (y : rules.Slot) (rows rows′ : List Row) where
@@ -103,7 +93,7 @@ module _ (s : rules.Settings) (now k : ℕ) (rows : List Row) (x : rules.Slot) w
   left-link : left .link ≡ checkMove now (x .link)
   left-link =
       let y : rules.Slot = checked now x in
-      kept-link y (isPast (y .link .alignment) && passed caInterval (y .timers .ca) now) ∙ moved-link (checkMove now (x .link)) x entered
+      kept-link y (isPast (y .link .alignment) && passed caInterval (y .timers .ca) now) ∙ moved-link (checkMove now (x .link)) x
 
   poll-link : pollSlot s now rows k x .link ≡ checkMove now (x .link)
   poll-link = by-link (poll.dueOf s now rows k left) s now rows k left ∙ left-link

@@ -117,6 +117,14 @@ ca-forget ignore c more l = refl
 ca-forget restart c more l = refl
 
 -- ---- the link of a slot
+-- no state is entered from itself
+pub enters-same : (a : Alignment) → enters a a ≡ false
+enters-same Down = refl
+enters-same Negotiate = refl
+enters-same (Summarize r) = refl
+enters-same Update = refl
+enters-same Aligned = refl
+
 pub moved-link : (l : Link) (x : Slot) → moved l x .link ≡ l
 moved-link l x = pick-of (λ (y : Slot). y .link ≡ l) (enters (x .link .alignment) (l .alignment)) (emptied (withLink l x)) (withLink l x) refl refl
 

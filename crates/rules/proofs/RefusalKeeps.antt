@@ -10,12 +10,10 @@ use lib.Dec.{eqb, ltb}
 use lib.ListN.{length, getD}
 use lib.Seq.{getD-set-same}
 use borrow.Author.Tests.{eqb-true, eq-eqb, ne-eqb}
-use Rattle.laws.specs.Choice.{pick}
 use Rattle.protocol.specs.declared.Kind.{Kind}
 use Rattle.protocol.specs.declared.Checked.the-variants.{Breaks}
 use Rattle.protocol.specs.declared.HelloState.the-variants.{Waiting}
 use Rattle.protocol.specs.declared.Alignment.the-variants.{Down}
-use Rattle.protocol.specs.declared.Link.{Link}
 use Rattle.protocol.specs.Sizes.{idLength}
 use Rattle.protocol.specs.Fields.{octet}
 use Rattle.protocol.specs.Checks.{mandatoryCheck}
@@ -24,11 +22,11 @@ use Rattle.protocol.specs.Answers.{refuse, firstCode, lengthGood, versionGood, 
 use Rattle.protocol.specs.Reading.{Reading, refused, malformed, message, kindOf, byCode, byCheck, readPacket}
 use Rattle.protocol.proofs.Codes.{AllTrue, FixedGood}
 use Rattle.rules.specs.Server.{slotsMost, Settings, freshSlot, Slot, Server, slotAt}
-use Rattle.rules.specs.Links.{enters, malformedMove}
-use Rattle.rules.specs.Slots.{moved, withLink, emptied}
+use Rattle.rules.specs.Links.{malformedMove}
 use Rattle.rules.specs.Packets.{slotMalformed}
 use Rattle.rules.specs.Refusals.{orElse, noPeer, early, noRoom, linkIsDown, pollCode, readingCode, isMalformedHello}
 use Rattle.rules.specs.Events.{Event, addPeer, linkUp, linkDown, packet, poll, set, withdraw, purge, codeOf, counts, acted, step, writtenAt, liveIn, readSlot}
+use Rattle.rules.proofs.Forget.{moved-link}
 use Rattle.rules.proofs.Stated.{none-stated, first-most, slotMissing, slotAbove, peerBad, keyBad, setBad, numberSpent, alreadyPurged, absent, absentOrEmpty, noFreeRow}
 use Rattle.rules.proofs.StatedPacket.{messageRefusals, refused-most, packet-codes}
 
@@ -122,12 +120,6 @@ second-false : (a b : Bool) → (a || not b) ≡ false → b ≡ true
 second-false true b e = absurd (false≢true (sym e))
 second-false false true e = refl
 second-false false false e = absurd (false≢true (sym e))
-
-pub moved-link : (l : Link) (x : Slot) → moved l x .link ≡ l
-moved-link l x = by (enters (x .link .alignment) (l .alignment)) where
-  by : (b : Bool) → pick b (emptied (withLink l x)) (withLink l x) .link ≡ l
-  by true = refl
-  by false = refl
 
 by-check : (w : ℕ) (k : Kind) (p : List ℕ) (l v t s x : Bool) → AllTrue l v t s x
     → byCode (firstCode (refuse (not l) 5 ∷ refuse (not v) 6 ∷ refuse (not t) 7 ∷ refuse (not s) 8 ∷ refuse (not x) 9 ∷ [])) w k p ≡ byCheck (mandatoryCheck w k p) w k p

@@ -4,7 +4,6 @@ use Prim.Native.Nat.{ℕ}
 use mathlib.Core.Path.{_≡_, refl, sym, ap, subst}
 use mathlib.Core.Bool.{Bool, true, false}
 use mathlib.Core.List.{List, []}
-use Rattle.laws.specs.Choice.{pick}
 use Rattle.protocol.specs.declared.Alignment.{Alignment}
 use Rattle.protocol.specs.declared.Alignment.the-variants.{Down, Negotiate, Summarize, Update, Aligned}
 use Rattle.protocol.specs.declared.Kind.the-variants.{Ca, CsuRequest, CsuReply, Csus, Hello}
@@ -16,11 +15,12 @@ use Rattle.rules.specs.Server.{Row}
 use Rattle.rules.specs.Links as links
 use Rattle.rules.specs.Links.{enters, helloMove}
 use Rattle.rules.specs.Rows.{clearedIf}
-use Rattle.rules.specs.Slots.{alignedIf, moved, withLink, emptied, withKept}
+use Rattle.rules.specs.Slots.{alignedIf, moved, withKept}
 use Rattle.rules.specs.Sent.{octetsOf}
 use Rattle.rules.specs.Alignment.{ruleFor}
 use Rattle.rules.specs.Updates.{allReplied, allSolicited}
 use Rattle.rules.specs.Packets.{namesUs, unlessEmpty, slotOn, rowsOn, sentOn}
+use Rattle.rules.proofs.Forget.{enters-same, moved-link}
 use Rattle.memory.specs.Memory.{rowsIn}
 use Rattle.wire.specs.declared.read.Head.{Head}
 use Rattle.wire.specs.Views.{recordsOf, receiversOf, messageOf}
@@ -41,24 +41,10 @@ enters-none true Update = refl
 enters-none false Update = refl
 enters-none none Aligned = refl
 
-pub enters-same : (a : Alignment) → enters a a ≡ false
-enters-same Down = refl
-enters-same Negotiate = refl
-enters-same (Summarize r) = refl
-enters-same Update = refl
-enters-same Aligned = refl
-
 not-cleared : (b : Bool) (k : ℕ) (rows : List Row) → b ≡ false → rows ≡ clearedIf b k rows
 not-cleared b k rows e = sym (ap (λ (c : Bool). clearedIf c k rows) e)
 
 -- ---- a link moved
-picked-link : (b : Bool) (l : Link) (x : rules.Slot) → pick b (emptied (withLink l x)) (withLink l x) .link ≡ l
-picked-link true l x = refl
-picked-link false l x = refl
-
-pub moved-link : (l : Link) (x : rules.Slot) → moved l x .link ≡ l
-moved-link l x = picked-link (enters (x .link .alignment) (l .alignment)) l x
-
 pub moves-rows : (k : ℕ) (l : Link) (x : Slot) (before after : List ℕ) (r : Slot) → Moves k l x before after r
     → let y = moved l (slotWith x k before) in
     Leaves k y (clearedIf (enters (x .link .alignment) (y .link .alignment)) k (rowsIn before)) before after r

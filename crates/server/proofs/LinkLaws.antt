@@ -6,8 +6,6 @@ use mathlib.Core.Bool.{Bool, true, false}
 use mathlib.Core.List.{List, []}
 use lib.ListN.{length}
 use Rattle.laws.specs.Choice.{pick}
-use Rattle.protocol.specs.declared.Alignment.{Alignment}
-use Rattle.protocol.specs.declared.Alignment.the-variants.{Down, Negotiate, Summarize, Update, Aligned}
 use Rattle.protocol.specs.declared.Last.the-variants.{Never}
 use Rattle.protocol.specs.declared.Link.{Link}
 use Rattle.rules.specs.Server as rules
@@ -17,7 +15,7 @@ use Rattle.rules.specs.Rows.{clearedIf}
 use Rattle.rules.specs.Slots.{moved, helloSent}
 use Rattle.rules.specs.Sent.{octetsOf}
 use Rattle.rules.specs.Events.{Event, inSlot, placeOf, upSlot, timeAfter, codeOf, sentBy}
-use Rattle.rules.proofs.Forget.{moved-link}
+use Rattle.rules.proofs.Forget.{enters-same, moved-link}
 use Rattle.memory.specs.Memory.{rowsIn}
 use Rattle.slots.specs.declared.state.Slot.{Slot}
 use Rattle.slots.specs.declared.state.Server.{Server}
@@ -34,14 +32,6 @@ use Rattle.server.specs.State.{serverOf, Does, Ends}
 use Rattle.server.specs.Events.{Ups}
 use Rattle.server.proofs.ServerLaws.{LeavesBy, ends-acted}
 use Rattle.server.proofs.DoesLaws.{does-taken}
-
--- no state is entered from itself
-enters-same : (a : Alignment) → enters a a ≡ false
-enters-same Down = refl
-enters-same Negotiate = refl
-enters-same (Summarize r) = refl
-enters-same Update = refl
-enters-same Aligned = refl
 
 -- ---- the slot
 module _ (k : ℕ) (x : Slot) (before : List ℕ) where

@@ -1,5 +1,4 @@
-// The events, for any server, memory, octets, slot and time. `Does` says what each leaves and answers.
-ghost use mathlib.Core.Path.{_≡_};
+// The events, for any server, table of slots, memory, octets, slot and time. `Does` says what each leaves and answers.
 ghost use lib.ListN.{length};
 ghost use Rattle.rules.specs.Events as events;
 ghost use Rattle.server.specs.State.{Does, DoesOut, Starts};

@@ -36,7 +36,7 @@ use slots::answers::Failure;
 use slots::answers::Outcome;
 use slots::state::Server;
 
-// Of an entry: whether a row holds it; of the first such row, whether its number is spent, whether it is purged, whether it has no payload (or is not there).
+// Of the first row that holds an entry: whether there is one, a spent number in it, a purged one, no payload (or no such row).
 pub struct Own {
     pub held: bool,
     pub spent: bool,

@@ -2,8 +2,6 @@
 ghost use mathlib.Core.Path.{_≡_};
 ghost use mathlib.Core.Bool.{_&&_};
 ghost use mathlib.Core.List.{List};
-ghost use Rattle.rules.specs.Server as server;
-ghost use Rattle.memory.specs.Memory.{memoryOf, freshMemory};
 ghost use Prim.Native.Nat.{ℕ, _<_};
 ghost use lib.ListN.{length};
 ghost use Rattle.laws.specs.Tables.{has, same};
@@ -12,7 +10,6 @@ ghost use Rattle.rules.specs.Refusals as rules;
 ghost use Rattle.memory.specs.Layout.{memorySize};
 ghost use Rattle.table.specs.Words.{tableSize, slotIn};
 ghost use Rattle.slots.specs.Codes.{codeNumber};
-ghost use Rattle.slots.specs.State.{settingsOf};
 ghost use Rattle.server.specs.State.{slotsOf, serverOf, Does, Starts};
 ghost use Rattle.server.specs.Events.{Clears};
 use crate::answers;

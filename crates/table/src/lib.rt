@@ -1,6 +1,5 @@
 // The peer slots in a lent table of words, 24 for each slot: read and put one at a time, so that no event copies them all.
 ghost use mathlib.Core.Path.{_≡_};
-ghost use mathlib.Core.List.{List};
 ghost use Prim.Native.Nat.{ℕ, _<_};
 ghost use lib.ListN.{length, getD};
 ghost use Rattle.laws.specs.Tables.{on};

@@ -227,7 +227,31 @@ fn theirs(file: &[u8], id: [u8; 4]) -> (u32, Duration) {
     (server.rows_used() as u32, start.elapsed())
 }
 
+/// Peers taken: only eight can be, so a list of settings and eight is run some thousand times, and one of settings alone.
+fn adding() {
+    let start = List { server: Server::new(settings(HIGH)).expect("good settings"), file: List::new(HIGH, LOW).file[..RECORD].to_vec() };
+    let mut all = start.clone();
+    for slot in 0..8 {
+        all.event(ADD_PEER, slot, 0, 0, &[10, 1, 0, slot]);
+    }
+    let mut least = [[Duration::MAX; 2]; 2];
+    for _ in 0..RUNS {
+        for (which, list) in [&start, &all].into_iter().enumerate() {
+            let (mut a, mut b) = (Duration::ZERO, Duration::ZERO);
+            for _ in 0..COUNT {
+                a += ours(&list.file).1;
+                b += theirs(&list.file, HIGH).1;
+            }
+            least[0][which] = least[0][which].min(a);
+            least[1][which] = least[1][which].min(b);
+        }
+    }
+    let [o, t] = least.map(|[start, all]| all.saturating_sub(start).as_secs_f64() * 1e9 / (8 * COUNT) as f64);
+    println!("add peer, taken (8 of 8 taken): {o:.0} ns against {t:.0} ns, ratio {:.2}", o / t);
+}
+
 fn main() {
+    adding();
     for (name, taken, start, all) in kinds() {
         let id = all.server.settings.id;
         let mut least = [[Duration::MAX; 2]; 2];

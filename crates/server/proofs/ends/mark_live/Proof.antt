@@ -1,4 +1,3 @@
-use Rattle.protocol.specs.declared.Alignment.{Alignment}
 use Rattle.rules.specs.Links.{isLive}
 use mathlib.Core.Path.{sym, ap, _∙_}
 use borrow.Author.Needs.{needs}
