@@ -7,7 +7,7 @@ use mathlib.Core.List.{List, [], _∷_}
 use native.Mathlib.Omega.{arith}
 use lib.Dec.{eqb}
 use lib.ListN.{length}
-use borrow.Author.Tests.{eq-eqb, ne-eqb, le-leb, lt-leb, eqb-true, eqb-false}
+use borrow.Author.Tests.{not-true, eq-eqb, ne-eqb, le-leb, lt-leb, eqb-true, eqb-false}
 use Rattle.laws.specs.Choice.{pick}
 use Rattle.laws.specs.Lists.{part}
 use Rattle.laws.specs.Puts.{written}
@@ -45,6 +45,7 @@ module _ {e : Event} {s : Server} {slots slots′ before after : List ℕ} {r : 
         server = x .server;
         line = λ n. λ i. n ∷ x .code i ∷ x .size i ∷ rowsUsed (x .server i .rows) ∷ [];
         octets = λ n. d .octets;
+        same = λ q. x .same (not-true (counts e (codeOf (serverOf s slots before) e)) q);
       })
 
   -- one without
@@ -61,7 +62,7 @@ unfolding written
 takes-none {s} {slots} {before} {out} {r} h e =
     subst (λ (k : Kind). Takes k s slots slots before before out out r) h
     (subst (λ (x : Answer). Takes other s slots slots before before out out x) (sym e)
-    (record { server = refl; line = λ n. refl; octets = λ n. refl }))
+    (record { server = refl; line = λ n. refl; octets = λ n. refl; same = λ _. (refl, (refl, refl)) }))
 
 -- ---- what a record is
 module _ (r : List ℕ) (k : ℕ) (h : k ≡ kindAt r) where

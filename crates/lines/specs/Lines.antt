@@ -2,13 +2,14 @@
 -- Assumes nothing.
 use Prim.Native.Nat.{ℕ, zero, suc, _/_}
 use mathlib.Core.Path.{_≡_}
-use mathlib.Core.Bool.{true, false}
+use mathlib.Core.Bool.{Bool, true, false, not}
 use mathlib.Core.List.{List, [], _∷_}
 use lib.ListN.{length, take, drop}
 use Rattle.laws.specs.Choice.{pick}
 use Rattle.laws.specs.Puts.{written}
+use Rattle.rules.specs.Server as rules
 use Rattle.rules.specs.Server.{rowsUsed, fresh}
-use Rattle.rules.specs.Events.{Event, run, items}
+use Rattle.rules.specs.Events.{Event, codeOf, counts, run, items}
 use Rattle.rules.specs.Replay.{recordSize, kindAt, settingsIn, Kind, event, other, kindOf, lineOf, serverAfter, startsGood}
 use Rattle.rules.specs.History.{history}
 use Rattle.rules.specs.Demand3.{Demand3}
@@ -34,11 +35,17 @@ pub record Begins (input slots slots′ before after : List ℕ) (r : Answer) : 
 abbrev pub Untimed : List ℕ → Type 0
 Untimed r = (kindAt r ≡ 1 → ⊥) × ((kindAt r ≡ 2 → ⊥) × ((kindAt r ≡ 3 → ⊥) × (kindAt r ≡ 4 → ⊥)))
 
--- a later one: the server, the numbers of its line, and the octets written
+-- whether a record adds nothing: it is no event, or a refused one, the malformed Hello apart
+abbrev pub addsNothing : Kind → rules.Server → Bool
+addsNothing (event e) s = not (counts e (codeOf s e))
+addsNothing other s = true
+
+-- a later one: the server, the numbers of its line, and the octets written; where it adds nothing, server, slots and memory are as they came
 pub record Takes (kind : Kind) (s : Server) (slots slots′ before after out out′ : List ℕ) (r : Answer) : Type 0 where
   pub server : serverOf (r .server) slots′ after ≡ serverAfter kind (serverOf s slots before)
   pub line : (n : ℕ) → n ∷ codeNumber (r .outcome) ∷ r .written ∷ rowsUsed (rowsIn after) ∷ [] ≡ lineOf kind n (serverOf s slots before) .numbers
   pub octets : (n : ℕ) → out′ ≡ written (lineOf kind n (serverOf s slots before) .octets) out
+  pub same : addsNothing kind (serverOf s slots before) ≡ true → (r .server ≡ s) × ((slots′ ≡ slots) × (after ≡ before))
 
 -- ---- a whole slice
 abbrev pub withEvent : Kind → List Event → List Event

@@ -28,7 +28,7 @@ fn run_from(s: Server, slots: &mut [usize; 192], memory: &mut [u8; 20800], input
     x
 }
 
-// Demand 3 of the server and memory that any slice leaves.
+// Demand 3 of the server, slots and memory that any slice leaves.
 pub fn run(slots: &mut [usize; 192], memory: &mut [u8; 20800], input: &[u8]) -> Answer
     ensures { λ r. ⌜ Runs (now (input .entry)) (now (slots .entry)) (now (slots .exit)) (now (memory .entry)) (now (memory .exit)) r ⌝ }
 {
