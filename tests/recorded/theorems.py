@@ -25,7 +25,7 @@ use Rattle.rules.specs.Rows.{next}
 use Rattle.rules.specs.Events.{codeOf, acted, step, writtenAt}
 use Rattle.protocol.proofs.Worked.{octetsOf}
 use Rattle.rules.specs.Replay.{cut, linesFrom, replay, replayed}
-use Rattle.runs.specs.Recorded.{event, file, line}
+use Rattle.runs.specs.Recorded.{recordFrom, file, expected}
 """
 UNFOLD = ("unfolding octetsOf replayed replay linesFrom codeOf acted step writtenAt next total recordOctets recordsOctets receiversOctets "
           "mandatory layout packetOf headCheck elementCheck elementsCheck mandatoryCheck fixedCode recordAt recordsAt receiversAt "
@@ -40,7 +40,7 @@ def record(r):
     if len(r) < RECORD:
         return "octetsOf %d %s []" % (len(r), numeral(r))
     short = r.rstrip(b"\0")
-    return "event %d %s" % (len(short), numeral(short))
+    return "recordFrom %d %s" % (len(short), numeral(short))
 
 
 def line(text):
@@ -49,7 +49,7 @@ def line(text):
         return "cut"
     octets = b"" if words[4] == "-" else bytes.fromhex(words[4])
     assert len(octets) == int(words[2]), text
-    return "line %s %s %s %s %s" % (*words[:4], numeral(octets))
+    return "expected %s %s %s %s %s" % (*words[:4], numeral(octets))
 
 
 def theorem(name):

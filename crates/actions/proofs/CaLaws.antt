@@ -17,13 +17,13 @@ use Rattle.protocol.specs.Messages.{CsaRecord, Message, ca}
 use Rattle.protocol.specs.Layouts.{packetOf}
 use Rattle.rules.specs.Server as rules
 use Rattle.rules.specs.Server.{Row, Request}
-use Rattle.rules.specs.Links.{CaIn, CaRule, refuse, becomeSlave, becomeMaster, repeat, slaveOn, masterOn, masterDone, ignore, restart, isLive, enters, negotiating, caMove}
+use Rattle.rules.specs.Links.{CaIn, CaRule, refuseCa, becomeSlave, becomeMaster, repeat, slaveOn, masterOn, masterDone, ignore, restart, isLive, enters, negotiating, caMove}
 use Rattle.rules.specs.Rows.{nextUsed, usedFrom, rowsOf, clearedIf}
 use Rattle.rules.specs.Requests.{Wanted, allTakenIn}
 use Rattle.rules.specs.Slots.{toPeer, withLink, withKept, withListed, withRequests, caSent, emptied, moved, alignedIf, completed}
-use Rattle.rules.specs.Sent.{packet, octetsOf}
+use Rattle.rules.specs.Sent.{newPacket, octetsOf}
 use Rattle.rules.specs.Alignment.{CaPacket, summaryRecord, answerFrom, answerTo, answerMore, caFlags, caSentBy, wantedOf, withWanted, taking, keeping, answering, caSlot}
-use Rattle.rules.proofs.Forget.{enters-same, moved-link}
+use Rattle.rules.proofs.PastLaws.{enters-same, moved-link}
 use Rattle.memory.specs.declared.next.Picks.{Picks}
 use Rattle.memory.specs.Memory as memories
 use Rattle.memory.specs.Memory.{rowsIn, keptIn, Memory, memoryOf, requestsOf, keptOf}
@@ -60,7 +60,7 @@ messageBy s x rows l =
     toPeer s x (ca (x .link .number) (caFlags (isMaster (x .link .role)) (x .link .more)) (rowsOf summaryRecord rows l))
 
 abbrev sentSlot : rules.Settings → ℕ → rules.Slot → List Row → List ℕ → ℕ → rules.Slot
-sentSlot s now x rows l to = completed (keeping (packet (messageBy s x rows l)) now to x)
+sentSlot s now x rows l to = completed (keeping (newPacket (messageBy s x rows l)) now to x)
 
 module _ (k : ℕ) (q : List ℕ) (before after : List ℕ) (h : k < 8) (m : memoryOf after ≡ memories.withKept k q (memoryOf before)) where
   kept-requests : requestsOf (memoryOf after) k ≡ requestsOf (memoryOf before) k
@@ -142,7 +142,7 @@ live-pick false r = refl
 
 -- by a rule with an answer, and where the master is done
 live-move : (u : CaRule) (c : CaIn) (more : Bool) (l : Link) → answers u ≡ true → isLive (caMove u c more l .alignment) ≡ true
-live-move refuse c more l h = absurd (false≢true h)
+live-move refuseCa c more l h = absurd (false≢true h)
 live-move becomeSlave c more l h = refl
 live-move becomeMaster c more l h = refl
 live-move repeat c more l h = absurd (false≢true h)
@@ -182,7 +182,7 @@ module _ (rows : List Row) (c : CaPacket) (x : rules.Slot) where
         ap (λ (y : rules.Slot). completed (keeping (caSentBy u s rows c x) now (answerTo rows (answerFrom u x)) y)) (slot-taken u h)
 
     answer-slot : (u : CaRule) → answers u ≡ true → endBy u ≡ caSlot u s now rows c x
-    answer-slot refuse h = absurd (false≢true h)
+    answer-slot refuseCa h = absurd (false≢true h)
     answer-slot becomeSlave h = kept-taken becomeSlave refl
     answer-slot becomeMaster h = kept-taken becomeMaster refl
     answer-slot repeat h = absurd (false≢true h)
@@ -194,7 +194,7 @@ module _ (rows : List Row) (c : CaPacket) (x : rules.Slot) where
 
     answer-octets : (u : CaRule) → answers u ≡ true
         → packetOf (messageBy s (slotBy u) rows (nextUsed rows (answerFrom u x))) ≡ octetsOf (caSentBy u s rows c x)
-    answer-octets refuse h = absurd (false≢true h)
+    answer-octets refuseCa h = absurd (false≢true h)
     answer-octets becomeSlave h = refl
     answer-octets becomeMaster h = refl
     answer-octets repeat h = absurd (false≢true h)

@@ -23,7 +23,7 @@ use Rattle.rules.specs.Server.{rowsMost, Row, free, waitsFor, rowAt, Request}
 use Rattle.rules.specs.Rows.{behind, nextWaiting}
 use Rattle.rules.specs.Poll as poll
 use Rattle.rules.specs.Poll.{dueIn}
-use Rattle.rules.proofs.TurnLaws.{far, turn, next-passes}
+use Rattle.rules.proofs.NextLaws.{far, reached-or-nearer, next-passes}
 use Rattle.memory.specs.declared.next.Picks.{Picks}
 use Rattle.memory.specs.Memory.{rowIn, rowsIn, memoryOf, requestsIn, requestsOf}
 use Rattle.memory.specs.Marks.{picksOf, Picked}
@@ -46,9 +46,9 @@ module _ (k : ℕ) (x : Slot) (memory : List ℕ) (r : Plan) where
   pub planned : (due : Due) (d : poll.Due) → GoodPicks due k x memory noPicks → dueOf due ≡ d → r ≡ record { due = due; picks = noPicks } → Plans d k x memory r
   planned due d g e h = subst (λ (p : Plan). Plans d k x memory p) (sym h) (record { which = e; rows = g })
 
-  pub planned-if : (due : Due) → GoodPicks due k x memory noPicks → (b : Bool) → r ≡ record { due = pick b due Nothing; picks = noPicks } → Plans (pick b (dueOf due) poll.none) k x memory r
+  pub planned-if : (due : Due) → GoodPicks due k x memory noPicks → (b : Bool) → r ≡ record { due = pick b due Nothing; picks = noPicks } → Plans (pick b (dueOf due) poll.nothingDue) k x memory r
   planned-if due g true h = planned due (dueOf due) g refl h
-  planned-if due g false h = planned Nothing poll.none tt refl h
+  planned-if due g false h = planned Nothing poll.nothingDue tt refl h
 
 -- ---- 'CSU Request .. while a row waits'
 rows-many : (s : List ℕ) → length (rowsIn s) ≡ 64
@@ -67,17 +67,17 @@ module _ (rows : List Row) (k c : ℕ) where
       has-at free (waitsFor k) refl rows (j % rowsMost) (a .0)
 
   module _ (size : length rows ≡ 64) (none : nextWaiting rows k c ≡ []) where
-    no-turn : (i : ℕ) → (l : List ℕ) → l ≡ [] → (has (λ y. eqb y (c + far c i)) l ≡ true) ⊎ (4 + far (behind c l % rowsMost) i ≤ far c i) → ⊥
-    no-turn i [] e (inl h) = false≢true h
-    no-turn i [] e (inr h) = stays i h
-    no-turn i (y ∷ l) e h = let z : _≡_ {A = ℕ} 0 1 = cc in omega arith
+    no-reached-or-nearer : (i : ℕ) → (l : List ℕ) → l ≡ [] → (has (λ y. eqb y (c + far c i)) l ≡ true) ⊎ (4 + far (behind c l % rowsMost) i ≤ far c i) → ⊥
+    no-reached-or-nearer i [] e (inl h) = false≢true h
+    no-reached-or-nearer i [] e (inr h) = stays i h
+    no-reached-or-nearer i (y ∷ l) e h = let z : _≡_ {A = ℕ} 0 1 = cc in omega arith
 
     no-waiting : has (waitsFor k) rows ≡ true → ⊥
     no-waiting t =
         let w = has-true free (waitsFor k) rows t in
         let i : ℕ = w .0 in
         let below : i < length rows = within free (waitsFor k) refl rows i (w .1) in
-        no-turn i (nextWaiting rows k c) none (turn rows k c i (omega arith) (w .1))
+        no-reached-or-nearer i (nextWaiting rows k c) none (reached-or-nearer rows k c i (omega arith) (w .1))
 
     waits-none : has (waitsFor k) rows ≡ false
     waits-none = is-false (has (waitsFor k) rows) no-waiting
@@ -92,11 +92,11 @@ picked-some (suc n) (x ∷ l) f h = refl
 
 module _ (s : List ℕ) (k : ℕ) (x : Slot) (p : Picks) (h : Picked (x .cursor) (nextWaiting (rowsIn s) k (x .cursor)) p) (passed : Bool) where
   abbrev Due-by : Plan → Type 0
-  Due-by r = Plans (pick (passed && has (waitsFor k) (rowsIn s)) poll.anUpdate poll.none) k x s r
+  Due-by r = Plans (pick (passed && has (waitsFor k) (rowsIn s)) poll.anUpdate poll.nothingDue) k x s r
 
-  idle-by : (b : Bool) → b ≡ false → pick (passed && b) poll.anUpdate poll.none ≡ poll.none
+  idle-by : (b : Bool) → b ≡ false → pick (passed && b) poll.anUpdate poll.nothingDue ≡ poll.nothingDue
   idle-by b e = rw e (by passed) where
-    by : (a : Bool) → pick (a && false) poll.anUpdate poll.none ≡ poll.none
+    by : (a : Bool) → pick (a && false) poll.anUpdate poll.nothingDue ≡ poll.nothingDue
     by true = refl
     by false = refl
 
@@ -112,7 +112,7 @@ module _ (s : List ℕ) (k : ℕ) (x : Slot) (p : Picks) (h : Picked (x .cursor)
       record { which = rw (t, w); rows = h }
 
 pub update-early : (s : List ℕ) (k : ℕ) (x : Slot) (passed : Bool) (r : Plan) → passed ≡ false → r ≡ record { due = Nothing; picks = noPicks }
-    → Plans (pick (passed && has (waitsFor k) (rowsIn s)) poll.anUpdate poll.none) k x s r
+    → Plans (pick (passed && has (waitsFor k) (rowsIn s)) poll.anUpdate poll.nothingDue) k x s r
 update-early s k x passed r e h = planned k x s r Nothing _ tt (rw e) h
 
 -- ---- 'CSUS in Update'

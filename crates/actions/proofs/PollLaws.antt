@@ -18,8 +18,8 @@ use Rattle.rules.specs.Rows.{clearedIf}
 use Rattle.rules.specs.Slots.{passed, withKept}
 use Rattle.rules.specs.Sent.{Sent, octetsOf}
 use Rattle.rules.specs.Poll as poll
-use Rattle.rules.specs.Poll.{caInterval, dueIn, slotBy, sentBy, keptDropped, checked, pollSlot, pollSent}
-use Rattle.rules.proofs.Forget.{enters-same, moved-link}
+use Rattle.rules.specs.Poll.{caInterval, dueIn, dueSlot, dueSent, keptDropped, checked, pollSlot, pollSent}
+use Rattle.rules.proofs.PastLaws.{enters-same, moved-link}
 use Rattle.memory.specs.Memory.{rowsIn, memoryOf}
 use Rattle.memory.specs.Memory as memories
 use Rattle.slots.specs.declared.state.Slot.{Slot}
@@ -48,8 +48,8 @@ kept-link : (y : rules.Slot) (b : Bool) → pick b (withKept [] y) y .link ≡ y
 kept-link y true = refl
 kept-link y false = refl
 
-by-link : (d : poll.Due) (s : rules.Settings) (now : ℕ) (rows : List Row) (k : ℕ) (y : rules.Slot) → slotBy d s now rows k y .link ≡ y .link
-by-link poll.none s now rows k y = refl
+by-link : (d : poll.Due) (s : rules.Settings) (now : ℕ) (rows : List Row) (k : ℕ) (y : rules.Slot) → dueSlot d s now rows k y .link ≡ y .link
+by-link poll.nothingDue s now rows k y = refl
 by-link poll.aHello s now rows k y = refl
 by-link poll.firstCa s now rows k y = refl
 by-link poll.keptCa s now rows k y = refl
@@ -65,13 +65,13 @@ tells l false = inl (enters-same (l .alignment))
 module _ (s : rules.Settings) (now k : ℕ) (y : rules.Slot) (rows rows′ : List Row) where
   -- the same is due, and does the same
   abbrev SameBy : poll.Due → poll.Due → Type 0
-  SameBy d d′ = (slotBy d′ s now rows′ k y ≡ slotBy d s now rows k y) × (sentBy d′ s rows′ k y ≡ sentBy d s rows k y)
+  SameBy d d′ = (dueSlot d′ s now rows′ k y ≡ dueSlot d s now rows k y) × (dueSent d′ s rows′ k y ≡ dueSent d s rows k y)
 
   abbrev Same : Type 0
   Same = SameBy (poll.dueOf s now rows k y) (poll.dueOf s now rows′ k y)
 
   same-rows : rows′ ≡ rows → Same
-  same-rows e = (λ i. slotBy (poll.dueOf s now (e i) k y) s now (e i) k y, λ i. sentBy (poll.dueOf s now (e i) k y) s (e i) k y)
+  same-rows e = (λ i. dueSlot (poll.dueOf s now (e i) k y) s now (e i) k y, λ i. dueSent (poll.dueOf s now (e i) k y) s (e i) k y)
 
   down-by : (b : Bool) → SameBy (pick b poll.aHello (dueIn now rows k y Down)) (pick b poll.aHello (dueIn now rows′ k y Down))
   down-by true = (refl, refl)
@@ -115,7 +115,7 @@ module _ (s : rules.Settings) (now k : ℕ) (x y : Slot) (m₀ m₁ m₂ m₃ ou
 
   pub polled : Moves k (checkMove now (x .link)) x m₀ m₁ y → Leaves k (keptDropped now (slotWith y k m₁)) (rowsIn m₁) m₁ m₂ y
       → Plans (poll.dueOf s now (rowsIn m₂) k (slotWith y k m₂)) k y m₂ d
-      → Acts k (slotBy (dueOf (d .due)) s now (rowsIn m₂) k (slotWith y k m₂)) (rowsIn m₂) (octetsOf (sentBy (dueOf (d .due)) s (rowsIn m₂) k (slotWith y k m₂))) m₂ m₃ out out′ r
+      → Acts k (dueSlot (dueOf (d .due)) s now (rowsIn m₂) k (slotWith y k m₂)) (rowsIn m₂) (octetsOf (dueSent (dueOf (d .due)) s (rowsIn m₂) k (slotWith y k m₂))) m₂ m₃ out out′ r
       → Polls k now s x m₀ m₃ out out′ r
   polled a b c e =
       let y₂ : slotWith y k m₂ ≡ left s now k rows slot = left-slot b h ∙ ap (keptDropped now) (left-slot a h) in
@@ -123,8 +123,8 @@ module _ (s : rules.Settings) (now k : ℕ) (x y : Slot) (m₀ m₁ m₂ m₃ ou
       let due : dueOf (d .due) ≡ poll.dueOf s now (clearedIf (entered s now k rows slot) k rows) k (left s now k rows slot) =
       c .which ∙ (λ i. poll.dueOf s now (r₂ i) k (y₂ i)) in
       let g = same s now k rows slot in
-      let to : slotBy (dueOf (d .due)) s now (rowsIn m₂) k (slotWith y k m₂) ≡ pollSlot s now rows k slot = (λ i. slotBy (due i) s now (r₂ i) k (y₂ i)) ∙ g .0 in
-      let what : sentBy (dueOf (d .due)) s (rowsIn m₂) k (slotWith y k m₂) ≡ pollSent s now rows k slot = (λ i. sentBy (due i) s (r₂ i) k (y₂ i)) ∙ g .1 in
+      let to : dueSlot (dueOf (d .due)) s now (rowsIn m₂) k (slotWith y k m₂) ≡ pollSlot s now rows k slot = (λ i. dueSlot (due i) s now (r₂ i) k (y₂ i)) ∙ g .0 in
+      let what : dueSent (dueOf (d .due)) s (rowsIn m₂) k (slotWith y k m₂) ≡ pollSent s now rows k slot = (λ i. dueSent (due i) s (r₂ i) k (y₂ i)) ∙ g .1 in
       let cleared = ap (λ (l : Link). clearedIf (enters (x .link .alignment) (l .alignment)) k rows) (sym (poll-link s now k rows slot)) in
       record {
         left = leaves-as (leaves-then (leaves-then a b) (e .left)) _ _ to (r₂ ∙ cleared);

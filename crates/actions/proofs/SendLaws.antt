@@ -2,17 +2,12 @@
 -- Assumes nothing.
 use Prim.Native.Nat.{ℕ, _%_, _≤_, _<_}
 use mathlib.Core.Path.{_≡_, refl, sym, ap, subst, _∙_}
-use mathlib.Core.Bool.{Bool, true}
+use mathlib.Core.Bool.{Bool}
 use mathlib.Core.List.{List, [], _∷_, map}
 use native.Mathlib.Omega.{arith}
-use lib.Dec.{leb}
 use lib.ListN.{length, take}
-use borrow.Author.Tests.{le-leb}
-use Rattle.laws.specs.Choice.{pick}
 use Rattle.laws.specs.Puts.{written}
-use Rattle.laws.proofs.TableLaws.{table-get}
 use Rattle.protocol.specs.declared.Last.the-variants.{At}
-use Rattle.protocol.specs.Sizes.{idLength, packetMost}
 use Rattle.protocol.specs.Messages.{CsaRecord, summaryOf, ca, csuRequest, csus}
 use Rattle.protocol.specs.Layouts.{packetOf}
 use Rattle.rules.specs.Server as rules
@@ -24,7 +19,7 @@ use Rattle.rules.specs.Alignment.{summaryRecord}
 use Rattle.rules.specs.Slots.{helloSent, caSent, csusSent, updateSent, withCursor}
 use Rattle.rules.specs.Sent.{octetsOf}
 use Rattle.rules.specs.Poll as poll
-use Rattle.rules.specs.Poll.{helloOf, firstFlags, firstCaOf, requestRecord, csusOf, heldRecord, updateOf, slotBy, sentBy}
+use Rattle.rules.specs.Poll.{helloOf, firstFlags, firstCaOf, requestRecord, csusOf, heldRecord, updateOf, dueSlot, dueSent}
 use Rattle.memory.specs.declared.next.Picks.{Picks}
 use Rattle.memory.specs.Memory.{rowsIn, requestsIn, keptIn, memoryOf, requestsOf, keptOf, withRequests, withKept}
 use Rattle.memory.specs.Marks.{picksOf, Picked}
@@ -33,7 +28,6 @@ use Rattle.records.proofs.MemoryLaws.{requests-same}
 use Rattle.writer.specs.declared.write.Common.{Common}
 use Rattle.writer.specs.declared.write.Records.{Records}
 use Rattle.writer.specs.declared.write.Written.{Written}
-use Rattle.writer.specs.declared.write.Written.the-variants.{Octets, TooShort}
 use Rattle.writer.specs.Write as writer
 use Rattle.writer.specs.Write.{Writes, helloMessage, csusMessage, requestMessage}
 use Rattle.slots.specs.declared.state.Settings.{Settings}
@@ -163,9 +157,9 @@ onward Update k x m p g e = g .onward
 
 module _ (d : Due) (k time : ℕ) (s : rules.Settings) (p : Picks) (x y : Slot) (m m′ out out′ : List ℕ) (n : ℕ) where
   pub sends : GoodPicks d k x m p → WritesDue (dueOf d) k s x m m′ out out′ n → SlotDue (dueOf d) time p x y
-      → Acts k (slotBy (dueOf d) s time (rowsIn m) k (slotWith x k m)) (rowsIn m) (octetsOf (sentBy (dueOf d) s (rowsIn m) k (slotWith x k m))) m m′ out out′ (record { slot = y; written = n })
+      → Acts k (dueSlot (dueOf d) s time (rowsIn m) k (slotWith x k m)) (rowsIn m) (octetsOf (dueSent (dueOf d) s (rowsIn m) k (slotWith x k m))) m m′ out out′ (record { slot = y; written = n })
   sends g w h =
-      let z : rules.Slot = slotBy (dueOf d) s time (rowsIn m) k (slotWith x k m) in
+      let z : rules.Slot = dueSlot (dueOf d) s time (rowsIn m) k (slotWith x k m) in
       record {
         left =
             leaves-lists k z m m′ y (z .requests) (z .kept) (w .memory time)

@@ -5,8 +5,6 @@ use mathlib.Core.Path.{_≡_, refl, sym, ap, _∙_, subst}
 use mathlib.Core.Bool.{Bool, true, false}
 use mathlib.Core.List.{List, [], _∷_, _++_, map}
 use native.Mathlib.Omega.{arith}
-use borrow.Author.Tests.{le-leb}
-use lib.Dec.{leb}
 use lib.ListN.{length, take}
 use Rattle.laws.specs.Choice.{pick}
 use Rattle.laws.specs.Lists.{isEmpty}
@@ -27,7 +25,6 @@ use Rattle.writer.specs.declared.write.Common.{Common}
 use Rattle.writer.specs.declared.write.CsaValue.{CsaValue}
 use Rattle.writer.specs.declared.write.Records.{Records}
 use Rattle.writer.specs.declared.write.Written.{Written}
-use Rattle.writer.specs.declared.write.Written.the-variants.{Octets, TooShort}
 use Rattle.writer.specs.Write as writer
 use Rattle.writer.specs.Write.{Writes}
 use Rattle.slots.specs.declared.state.Settings.{Settings}

@@ -23,7 +23,7 @@ use Rattle.rules.specs.Sent.{octetsOf}
 use Rattle.rules.specs.Alignment.{CaPacket, caPacket, wantedOf, withWanted, caSentBy, caSlot}
 use Rattle.rules.specs.Packets.{updatedBy, unlessEmpty}
 use Rattle.rules.specs.Poll as poll
-use Rattle.rules.specs.Poll.{slotBy, sentBy, pollSlot, pollSent}
+use Rattle.rules.specs.Poll.{dueSlot, dueSent, pollSlot, pollSent}
 use Rattle.memory.specs.declared.next.Picks.{Picks}
 use Rattle.memory.specs.Memory.{rowsIn, memoryOf, withKept, requestsOf}
 use Rattle.memory.specs.Memory as memories
@@ -66,11 +66,11 @@ pub record SendsCsus (k : ℕ) (p before after out out′ : List ℕ) (r : ℕ) 
 
 -- ---- a CA
 abbrev pub headAt : List ℕ → CaHead
-headAt p = record { number = numbers.ca (field4 p 8); flags = flagsAt p 18 }
+headAt p = record { number = numbers.caNumber (field4 p 8); flags = flagsAt p 18 }
 
 -- the packet with this head, as a CA
 abbrev pub caPacketAt : List ℕ → Head → CaPacket
-caPacketAt p h = caPacket (numbers.ca (field4 p 8)) (flagsAt p 18) (recordsOf p (h .records)) (messageOf p h .sender)
+caPacketAt p h = caPacket (numbers.caNumber (field4 p 8)) (flagsAt p 18) (recordsOf p (h .records)) (messageOf p h .sender)
 
 abbrev pub isMaster : Role → Bool
 isMaster Master = true
@@ -78,7 +78,7 @@ isMaster Slave = false
 
 -- the rules by which a CA with rows is answered
 abbrev pub answers : links.CaRule → Bool
-answers links.refuse = false
+answers links.refuseCa = false
 answers links.becomeSlave = true
 answers links.becomeMaster = true
 answers links.repeat = false
@@ -108,7 +108,7 @@ TakesRequest live k s rs x before after out out′ r =
 
 -- ---- a poll
 abbrev pub dueOf : Due → poll.Due
-dueOf Nothing = poll.none
+dueOf Nothing = poll.nothingDue
 dueOf Hello = poll.aHello
 dueOf FirstCa = poll.firstCa
 dueOf KeptCa = poll.keptCa
@@ -134,17 +134,17 @@ pub record Plans (d : poll.Due) (k : ℕ) (x : Slot) (memory : List ℕ) (r : Pl
 -- what is due is written, with what follows for slot k's part of the memory
 pub record WritesDue (d : poll.Due) (k : ℕ) (s : rules.Settings) (x : Slot) (before after out out′ : List ℕ) (r : ℕ) : Type 0 where
   pub memory : (now : ℕ) → memoryOf after
-      ≡ withKept k (slotBy d s now (rowsIn before) k (slotWith x k before) .kept)
-      (memories.withRequests k (slotBy d s now (rowsIn before) k (slotWith x k before) .requests) (memoryOf before))
-  pub wrote : Wrote (octetsOf (sentBy d s (rowsIn before) k (slotWith x k before))) out out′ r
+      ≡ withKept k (dueSlot d s now (rowsIn before) k (slotWith x k before) .kept)
+      (memories.withRequests k (dueSlot d s now (rowsIn before) k (slotWith x k before) .requests) (memoryOf before))
+  pub wrote : Wrote (octetsOf (dueSent d s (rowsIn before) k (slotWith x k before))) out out′ r
 
 -- the slot after it
 abbrev pub SlotDue : poll.Due → ℕ → Picks → Slot → Slot → Type 0
 SlotDue d now p x r =
     (s : rules.Settings) (rows : List Row) (k : ℕ) (qs : List Request) (kept : List ℕ)
     → (d ≡ poll.anUpdate → p .next ≡ behind (x .cursor) (nextWaiting rows k (x .cursor)))
-    → slotOf r (slotBy d s now rows k (slotOf x qs kept) .requests) (slotBy d s now rows k (slotOf x qs kept) .kept)
-    ≡ slotBy d s now rows k (slotOf x qs kept)
+    → slotOf r (dueSlot d s now rows k (slotOf x qs kept) .requests) (dueSlot d s now rows k (slotOf x qs kept) .kept)
+    ≡ dueSlot d s now rows k (slotOf x qs kept)
 
 abbrev pub Polls : ℕ → ℕ → rules.Settings → Slot → List ℕ → List ℕ → List ℕ → List ℕ → Acted → Type 0
 Polls k now s x before after out out′ r =

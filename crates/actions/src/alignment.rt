@@ -11,7 +11,7 @@ ghost use Rattle.rules.specs.Links as links;
 ghost use Rattle.rules.specs.Rows.{rowsOf, usedFrom};
 ghost use Rattle.rules.specs.Server.{Request};
 ghost use Rattle.rules.specs.Slots as slots;
-ghost use Rattle.rules.specs.Sent.{packet, octetsOf};
+ghost use Rattle.rules.specs.Sent.{newPacket, octetsOf};
 ghost use Rattle.memory.specs.Layout.{memorySize};
 ghost use Rattle.memory.specs.Memory.{rowsIn, keptIn};
 ghost use Rattle.memory.specs.Marks.{picksOf};
@@ -205,7 +205,7 @@ fn send_answer(
     out: &mut [u8],
 ) -> Acted
     requires { ⌜ ((length (now memory) ≡ memorySize) × ((k < 8) × (284 ≤ length (now out)))) × ((picks .count ≤ 4) × (length (picks .rows) ≡ 4)) ⌝ }
-    ensures { λ r. ⌜ (let m = slots.toPeer (settingsOf s) (slotWith x k (now (memory .entry))) (ca (x .link .number) (rules.caFlags (isMaster (x .link .role)) (x .link .more)) (rowsOf rules.summaryRecord (rowsIn (now (memory .entry))) (picksOf picks))) in Acts k (slots.completed (rules.keeping (packet m) time (picks .next) (slotWith x k (now (memory .entry))))) (rowsIn (now (memory .entry))) (packetOf m) (now (memory .entry)) (now (memory .exit)) (now (out .entry)) (now (out .exit)) r) ⌝ }
+    ensures { λ r. ⌜ (let m = slots.toPeer (settingsOf s) (slotWith x k (now (memory .entry))) (ca (x .link .number) (rules.caFlags (isMaster (x .link .role)) (x .link .more)) (rowsOf rules.summaryRecord (rowsIn (now (memory .entry))) (picksOf picks))) in Acts k (slots.completed (rules.keeping (newPacket m) time (picks .next) (slotWith x k (now (memory .entry))))) (rowsIn (now (memory .entry))) (packetOf m) (now (memory .entry)) (now (memory .exit)) (now (out .entry)) (now (out .exit)) r) ⌝ }
 {
     let peer = x.peer;
     let l = x.link;

@@ -263,7 +263,7 @@ fn send(
     out: &mut [u8],
 ) -> Acted
     requires { ⌜ ((length (now memory) ≡ memorySize) × ((k < 8) × (284 ≤ length (now out)))) × GoodPicks (d .due) k x (now memory) (d .picks) ⌝ }
-    ensures { λ r. ⌜ Acts k (rules.slotBy (dueOf (d .due)) (settingsOf s) time (rowsIn (now (memory .entry))) k (slotWith x k (now (memory .entry)))) (rowsIn (now (memory .entry))) (octetsOf (rules.sentBy (dueOf (d .due)) (settingsOf s) (rowsIn (now (memory .entry))) k (slotWith x k (now (memory .entry))))) (now (memory .entry)) (now (memory .exit)) (now (out .entry)) (now (out .exit)) r ⌝ }
+    ensures { λ r. ⌜ Acts k (rules.dueSlot (dueOf (d .due)) (settingsOf s) time (rowsIn (now (memory .entry))) k (slotWith x k (now (memory .entry)))) (rowsIn (now (memory .entry))) (octetsOf (rules.dueSent (dueOf (d .due)) (settingsOf s) (rowsIn (now (memory .entry))) k (slotWith x k (now (memory .entry))))) (now (memory .entry)) (now (memory .exit)) (now (out .entry)) (now (out .exit)) r ⌝ }
 {
     let n = write_due(s, memory, k, x, d, out);
     let slot = slot_due(time, x, d);

@@ -1,7 +1,7 @@
 // Searches, stores and next rows on a memory of the server, in number and kind as standard input asks: for tests/bench, which times it
 // against the same work in Rust. Input: kind (0 find, 1 store, 2 next four), rows used (at most 64), how often (4 octets).
 ghost use mathlib.Core.Path.{_≡_};
-ghost use Prim.Native.Nat.{_≤_, _<_};
+ghost use Prim.Native.Nat.{_<_};
 ghost use lib.ListN.{length};
 ghost use Rattle.memory.specs.Layout.{memorySize};
 use memory::rows::Found;

@@ -1,6 +1,6 @@
 // The marked cases of document 01 in one constant table, proved under a single statement: the contract of `marked`.
 ghost use mathlib.Core.Path.{_≡_};
-ghost use Rattle.cases.specs.Cases.{caseAt};
+ghost use Rattle.cases.specs.Cases.{numbers, outcome, caseAt};
 
 // What is computed from the numbers of a row. `outcome` says how.
 pub enum Rule {
@@ -69,4 +69,11 @@ pub fn marked(i: usize) -> Found
     } else {
         Found::NoRow
     }
+}
+
+// Case 7 by the server's own function of two 16-bit numbers: no product of theirs is too large for 32 bits.
+pub fn longest_alive() -> u32
+    ensures { λ r. ⌜ r ≡ outcome (Rule.Product) (numbers 65535 65535 0 0 0) ⌝ }
+{
+    slots::times::product(65535, 65535)
 }

@@ -73,6 +73,20 @@ module _ {A : Type 0} (d : A) (p : A → Bool) where
   has-at z (x ∷ xs) zero h = rw h
   has-at z (x ∷ xs) (suc i) h = or-right (p x) (has p xs) (has-at z xs i h)
 
+  -- the first that passes, if one does
+  find-has-by : (x : A) (xs : List A) → (has p xs ≡ true → p (find p d xs) ≡ true) → (b : Bool) → p x ≡ b → (b || has p xs) ≡ true
+      → p (pick b x (find p d xs)) ≡ true
+  find-has-by x xs ih true q e = q
+  find-has-by x xs ih false q e = ih e
+
+  pub find-has : (l : List A) → has p l ≡ true → p (find p d l) ≡ true
+  find-has [] e = absurd (false≢true e)
+  find-has (x ∷ xs) e = find-has-by x xs (find-has xs) (p x) refl e
+
+  pub find-none : (l : List A) → has p l ≡ false → find p d l ≡ d
+  find-none [] e = refl
+  find-none (x ∷ xs) e = let r = or-false (p x) (has p xs) e in rw (r .0, find-none xs (r .1))
+
   -- a cell that passes is one of the list, if d does not pass
   pub within : p d ≡ false → (l : List A) (i : ℕ) → p (getD l i d) ≡ true → i < length l
   within z [] i h = absurd (false≢true (sym z ∙ h))

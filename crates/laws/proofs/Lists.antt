@@ -7,7 +7,7 @@ use native.Mathlib.Nat.{min-le-left, min-le-right, le-of-eq}
 use native.Mathlib.Numerals.{add-one}
 use native.Mathlib.Omega.{arith, min-cases}
 use lib.ListN.{length, getD, set, take, drop, take-append-drop, length-take, length-drop, length-append, length-map}
-use lib.Seq.{take-all, take-length, length-take-le, getD-drop, drop-cons, drop-drop, take-append-seam, drop-append-seam}
+use lib.Seq.{take-all, take-length, length-take-le, getD-drop, drop-cons, drop-drop, take-add, take-append-seam, drop-append-seam}
 use Rattle.laws.specs.Lists.{part}
 
 -- all that stands from `at` on, taken
@@ -48,6 +48,11 @@ peel1 p at next e h = drop-cons p at 0 (omega arith) ∙ ap (λ (n : ℕ). getD 
 pub peel-part : (p : List ℕ) (at n next : ℕ) → next ≡ at + n → drop at p ≡ part p at n ++ drop next p
 peel-part p at n next e =
     sym (take-append-drop n (drop at p)) ∙ ap (λ (l : List ℕ). part p at n ++ l) (drop-drop n at p ∙ ap (λ (j : ℕ). drop j p) (sym e))
+
+-- a part in two, `to` where the second begins
+pub part-split : (p : List ℕ) (at n m to : ℕ) → to ≡ at + n → part p at (n + m) ≡ part p at n ++ part p to m
+part-split p at n m to e =
+    take-add n m (drop at p) ∙ ap (λ (l : List ℕ). part p at n ++ take m l) (drop-drop n at p ∙ ap (λ (j : ℕ). drop j p) (sym e))
 
 pub part-length : (p : List ℕ) (at n : ℕ) → at + n ≤ length p → length (part p at n) ≡ n
 part-length p at n h = length-take-le n (drop at p) (simp length-drop (omega arith))

@@ -58,10 +58,10 @@ module _ (out : List ℕ) (at : ℕ) (v w : List ℕ) where
   }
 
   -- a put behind a place that is filled afterwards
-  pub put-before : length v ≡ at → at + length w ≤ length out → putAt (putAt out at w) 0 v ≡ putAt out 0 (v ++ w)
+  pub put-before : length v ≡ at → at ≤ length out → putAt (putAt out at w) 0 v ≡ putAt out 0 (v ++ w)
   unfolding putAt
   put-before e h =
-      let a : length (take at out) ≡ at = length-take-le at out (omega arith) in
+      let a : length (take at out) ≡ at = length-take-le at out h in
       let f : 0 + length v ≡ at = omega arith in
       let g : 0 + length (v ++ w) ≡ at + length w = simp length-append (omega arith) in
       ap (λ (n : ℕ). v ++ drop n (take at out ++ (w ++ drop (at + length w) out))) f

@@ -1,17 +1,17 @@
 -- Laws of tables: lists of octets that are the same; cells under a map, and those that do not pass a test.
 -- Assumes nothing.
 use Prim.Native.Nat.{ℕ, suc, _≤_}
-use mathlib.Core.Path.{_≡_, refl, sym, _∙_}
-use mathlib.Core.Bool.{Bool, true, false, _||_, false≢true}
-use mathlib.Core.List.{List, [], _∷_, map}
+use mathlib.Core.Path.{_≡_, refl, sym, ap, _∙_}
+use mathlib.Core.Bool.{Bool, true, false, _&&_, _||_, false≢true}
+use mathlib.Core.List.{List, [], _∷_, _++_, map}
 use native.Mathlib.Omega.{arith}
 use lib.Dec.{eqb, ltb, leb·suc-suc}
-use lib.ListN.{length}
+use lib.ListN.{length, length-append}
 use borrow.Author.Tests.{lt-ltb, eqb-true, eqb-false, eq-eqb, ne-eqb}
 use Rattle.laws.specs.Choice.{pick}
 use Rattle.laws.specs.Lists.{All}
 use Rattle.laws.specs.Tables.{has, change, without, same, In, here, there}
-use Rattle.laws.proofs.Bools.{and-true, pick-of}
+use Rattle.laws.proofs.Bools.{and-true, is-false, pick-of}
 
 -- ---- the same octets
 pub same-refl : (l : List ℕ) → same l l ≡ true
@@ -37,6 +37,21 @@ same-sym [] [] = refl
 same-sym [] (y ∷ ys) = refl
 same-sym (x ∷ xs) [] = refl
 same-sym (x ∷ xs) (y ∷ ys) = rw (eqb-sym-by x y (eqb x y) refl, same-sym xs ys)
+
+-- lists of different lengths are not
+pub same-long : (l m : List ℕ) → (length l ≡ length m → ⊥) → same l m ≡ false
+same-long l m n = is-false (same l m) (λ e. n (ap length (same-true l m e)))
+
+and-assoc : (a b c : Bool) → (a && (b && c)) ≡ ((a && b) && c)
+and-assoc true b c = refl
+and-assoc false b c = refl
+
+-- in two parts, of which the second are of one length
+pub same-append : (a b c d : List ℕ) → length c ≡ length d → same (a ++ c) (b ++ d) ≡ (same a b && same c d)
+same-append [] [] c d h = refl
+same-append [] (y ∷ b) c d h = same-long c (y ∷ (b ++ d)) (λ e. let f = length-append b d in omega arith)
+same-append (x ∷ a) [] c d h = same-long (x ∷ (a ++ c)) d (λ e. let f = length-append a c in omega arith)
+same-append (x ∷ a) (y ∷ b) c d h = ap (λ z. eqb x y && z) (same-append a b c d h) ∙ and-assoc (eqb x y) (same a b) (same c d)
 
 -- ---- under a map
 module _ {A B : Type 0} (g : A → B) where

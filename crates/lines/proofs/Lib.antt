@@ -1,3 +1,4 @@
 pub mod LineLaws
 pub mod RunLaws
 pub mod TextLaws
+pub mod ChunkLaws

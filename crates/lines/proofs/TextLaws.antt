@@ -14,7 +14,7 @@ use lib.Seq.{set-split}
 use Rattle.laws.specs.Puts.{putAt, Put}
 use Rattle.laws.proofs.Puts.{then-put, four-puts, put-length}
 use Rattle.io.specs.Digits.{digits, Fewest}
-use Rattle.lines.specs.Text.{PutsNumber, PutsLine}
+use Rattle.lines.specs.Text.{PutsNumber, PutsNumbers}
 
 -- a store is a put of one octet
 put-one : (l : List ℕ) (at x : ℕ) → at < length l → Put (x ∷ []) at l (set l at x) (at + 1)
@@ -51,24 +51,20 @@ number-put n behind at k v before mid end room few f e p =
 module _ {a b c d at : ℕ} {t₀ t₁ t₂ t₃ t₄ : List ℕ} {i j k n : ℕ} where
   pub line-put : at + 84 ≤ length t₀ → i ≤ at + 21 → j ≤ i + 21 → k ≤ j + 21 → n ≤ k + 21
       → PutsNumber a 32 at t₀ t₁ i → PutsNumber b 32 i t₁ t₂ j → PutsNumber c 32 j t₂ t₃ k → PutsNumber d 10 k t₃ t₄ n
-      → (PutsLine a b c d at t₀ t₄ n) × (n ≤ at + 84)
+      → (PutsNumbers (a ∷ b ∷ c ∷ d ∷ []) at t₀ t₄ n) × (n ≤ at + 84)
   line-put room hi hj hk hn p q r s =
       let gi : i ≡ at + length (p .octets) = p .put .next in
       let gj : j ≡ i + length (q .octets) = q .put .next in
       let gk : k ≡ j + length (r .octets) = r .put .next in (
         record {
           octets = p .octets ++ (q .octets ++ (r .octets ++ s .octets));
-          means = record {
-            first = p .octets;
-            second = q .octets;
-            third = r .octets;
-            fourth = s .octets;
-            is-first = p .means;
-            is-second = q .means;
-            is-third = r .means;
-            is-fourth = s .means;
-            text = refl;
-          };
+          means = (
+            p .octets,
+            q .octets ++ (r .octets ++ s .octets),
+            p .means,
+            (q .octets, r .octets ++ s .octets, q .means, (r .octets, s .octets, r .means, s .means, refl), refl),
+            refl,
+          );
           put = four-puts t₀ at (p .octets) (q .octets) (r .octets) (s .octets) (omega arith) (p .put) (q .put) (r .put) (s .put);
         },
         omega arith,

@@ -18,7 +18,7 @@ pub fn kind(r: &[u8]) -> u8
 }
 
 pub fn slot(r: &[u8]) -> usize
-    ensures { λ x. ⌜ x ≡ replay.slotIn (now (r .entry)) ⌝ }
+    ensures { λ x. ⌜ x ≡ replay.slotOctet (now (r .entry)) ⌝ }
 {
     octets::octet(r, 1) as usize
 }

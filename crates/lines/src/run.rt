@@ -1,10 +1,7 @@
 // A whole slice of records, from the settings to the last.
-ghost use mathlib.Core.Path.{_≡_};
 ghost use Prim.Native.Nat.{_≤_};
 ghost use lib.ListN.{length};
-ghost use Rattle.lines.specs.Lines.{eventsIn, Runs};
-ghost use Rattle.rules.specs.Events.{run};
-ghost use Rattle.server.specs.State.{serverOf};
+ghost use Rattle.lines.specs.Lines.{RunsFrom, Runs};
 use crate::take;
 use server::answers;
 use server::answers::Answer;
@@ -13,7 +10,7 @@ use slots::state::Server;
 // The records behind the first, each taken by the server that the last one left.
 fn run_from(s: Server, slots: &mut [usize; 192], memory: &mut [u8; 20800], input: &[u8]) -> Server
     requires { ⌜ 292 ≤ length (now input) ⌝ }
-    ensures { λ r. ⌜ serverOf r (now (slots .exit)) (now (memory .exit)) ≡ run (serverOf s (now (slots .entry)) (now (memory .entry))) (eventsIn (now (input .entry))) ⌝ }
+    ensures { λ r. ⌜ RunsFrom s (now (slots .entry)) (now (slots .exit)) (now (memory .entry)) (now (memory .exit)) (now (input .entry)) r ⌝ }
 {
     let mut out = [0u8; 284];
     let mut x = s;

@@ -1,8 +1,8 @@
 // A line as text.
-ghost use mathlib.Core.Path.{_≡_};
+ghost use mathlib.Core.List.{[], _∷_};
 ghost use Prim.Native.Nat.{_+_, _≤_};
 ghost use lib.ListN.{length};
-ghost use Rattle.lines.specs.Text.{PutsNumber, PutsLine};
+ghost use Rattle.lines.specs.Text.{PutsNumber, PutsNumbers};
 
 // A number in decimal, and an octet behind it.
 fn put_number(text: &mut [u8], at: usize, n: u64, behind: u8) -> usize
@@ -27,7 +27,7 @@ pub fn put_line(
     used: usize,
 ) -> usize
     requires { ⌜ at + 84 ≤ length (now text) ⌝ }
-    ensures { λ r. ⌜ PutsLine number code written used at (now (text .entry)) (now (text .exit)) r ⌝ }
+    ensures { λ r. ⌜ PutsNumbers (number ∷ code ∷ written ∷ used ∷ []) at (now (text .entry)) (now (text .exit)) r ⌝ }
     ensures most { λ r. ⌜ r ≤ at + 84 ⌝ }
 {
     let second = put_number(text, at, number, 32);

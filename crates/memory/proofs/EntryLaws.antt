@@ -2,32 +2,28 @@
 -- Assumes nothing.
 use Prim.Native.Nat.{ℕ, _-_}
 use mathlib.Core.Path.{_≡_, refl, sym, ap, _∙_, fun-ext}
-use mathlib.Core.Bool.{Bool, true, false, not, false≢true}
+use mathlib.Core.Bool.{Bool, false, not, false≢true}
 use mathlib.Core.List.{List, []}
-use native.Mathlib.Omega.{arith}
 use Rattle.laws.specs.Choice.{pick}
-use Rattle.laws.specs.Tables.{has, find, change}
+use Rattle.laws.specs.Tables.{has, change}
 use Rattle.protocol.specs.declared.CsaNumber.{CsaNumber}
 use Rattle.protocol.specs.declared.Step.{Step}
 use Rattle.protocol.specs.Numbers.{newer, nextCsa, purged}
 use Rattle.protocol.specs.Messages.{CsaRecord}
-use Rattle.rules.specs.Server.{Entry, Row, free, used, isFree, holds}
-use Rattle.rules.specs.Rows.{isPurged, spread, filled}
-use Rattle.rules.specs.Requests.{entryOf, upToDate}
-use Rattle.rules.specs.Updates.{hopsMost, value, stepped, changedRow, purgedRow, null, purgeAbsent, full, stored, equal, older, outOfDate, ahead, updateRule, valueOf, rowFor, renewed, rowsBy}
-use Rattle.rules.specs.Demand3.{Once}
-use Rattle.memory.specs.declared.rows.Found.{Found}
+use Rattle.rules.specs.Server.{Entry, Row, free, used, holds}
+use Rattle.rules.specs.Rows.{entryRow, spread, filled}
+use Rattle.rules.specs.Requests.{upToDate}
+use Rattle.rules.specs.Updates.{hopsMost, value, stepped, changedRow, purgedRow, stored, valueOf, rowFor, renewed, rowsBy}
 use Rattle.memory.specs.declared.rows.Found.the-variants.{At, Nothing}
-use Rattle.memory.specs.declared.entries.Held.the-variants.{Number as Holds, Absent}
 use Rattle.memory.specs.Layout.{rowPlace}
 use Rattle.memory.specs.Memory.{valueAt, isMarked, rowIn, rowsIn, memoryOf, withRows}
 use Rattle.memory.specs.Search.{firstFrom, withRow, revalued}
 use Rattle.memory.specs.Marks.{changedAt}
-use Rattle.memory.specs.Entries.{received, rowsAs, putRows, heldNumber}
+use Rattle.memory.specs.Entries.{received, rowsAs, putRows}
 use Rattle.memory.proofs.SearchLaws.{find-first, find-none}
 use Rattle.memory.proofs.RowPlaces.{row-case, usedRow, as-changed}
 use Rattle.memory.proofs.RowInsert.{found-below, all-rows}
-use Rattle.memory.proofs.RowLaws.{found-first, has-found, change-found, has-none, change-none, found-row, found-stale, found-ahead}
+use Rattle.memory.proofs.RowLaws.{found-first, has-found, change-found, has-none, change-none, found-row}
 
 -- ---- the entry's row changed
 module _ (e : Entry) (s : List ℕ) where
@@ -92,66 +88,15 @@ purged-row live (used e v m) = refl
 
 -- ---- what is held
 module _ (e : Entry) (s : List ℕ) where
-  pub held-found : (i : ℕ) → firstFrom (holds e) 0 (rowsIn s) ≡ At i → Holds (valueAt s (rowPlace i) .number) ≡ heldNumber (find (holds e) free (rowsIn s))
-  held-found i at = sym (ap heldNumber (find-first (holds e) (rowsIn s) i (found-first (holds e) (rowsIn s) i at) ∙ found-row s e i at))
+  pub found-entry : (i : ℕ) → firstFrom (holds e) 0 (rowsIn s) ≡ At i → entryRow e (rowsIn s) ≡ usedRow s i
+  found-entry i at = find-first (holds e) (rowsIn s) i (found-first (holds e) (rowsIn s) i at) ∙ found-row s e i at
 
-  pub held-none : firstFrom (holds e) 0 (rowsIn s) ≡ Nothing → Absent ≡ heldNumber (find (holds e) free (rowsIn s))
-  held-none none = sym (ap heldNumber (find-none (holds e) (rowsIn s) (has-none (holds e) (rowsIn s) none)))
+  pub none-entry : firstFrom (holds e) 0 (rowsIn s) ≡ Nothing → entryRow e (rowsIn s) ≡ free
+  none-entry none = find-none (holds e) (rowsIn s) (has-none (holds e) (rowsIn s) none)
 
-  -- a search that found an up-to-date row, or none
-  pub up-found : (n : CsaNumber) (i : ℕ) → At i ≡ firstFrom (upToDate e n) 0 (rowsIn s) → true ≡ has (upToDate e n) (rowsIn s)
-  up-found n i at = sym (has-found (upToDate e n) (rowsIn s) i (sym at))
+  pub up-found : (n held : CsaNumber) (b : Bool) (i : ℕ) → firstFrom (holds e) 0 (rowsIn s) ≡ At i → held ≡ valueAt s (rowPlace i) .number → b ≡ newer n held
+      → not b ≡ upToDate n (entryRow e (rowsIn s))
+  up-found n held b i at h p = ap not (p ∙ ap (newer n) h) ∙ sym (ap (upToDate n) (found-entry i at))
 
-  pub up-none : (n : CsaNumber) → Nothing ≡ firstFrom (upToDate e n) 0 (rowsIn s) → false ≡ has (upToDate e n) (rowsIn s)
-  up-none n none = sym (has-none (upToDate e n) (rowsIn s) (sym none))
-
-  pub not-up : (n : CsaNumber) (i : ℕ) → holds e (rowIn s i) ≡ false → false ≡ upToDate e n (rowIn s i)
-  not-up n i = row-case s i (λ r. holds e r ≡ false → false ≡ upToDate e n r) (λ h. refl) (λ h. rw h)
-
-  pub up-if : (n : CsaNumber) (i : ℕ) → holds e (rowIn s i) ≡ true → not (newer n (valueAt s (rowPlace i) .number)) ≡ upToDate e n (rowIn s i)
-  up-if n i = row-case s i (λ r. holds e r ≡ true → not (newer n (valueAt s (rowPlace i) .number)) ≡ upToDate e n r) (λ h. absurd (false≢true h)) (λ h. rw h)
-
--- the number held against a record's
-module _ (e : Entry) (s : List ℕ) where
-  pub held-has : (m : CsaNumber) → heldNumber (find (holds e) free (rowsIn s)) ≡ Holds m → has (holds e) (rowsIn s) ≡ true
-  held-has m h = by (firstFrom (holds e) 0 (rowsIn s)) refl where
-    by : (r : Found) → firstFrom (holds e) 0 (rowsIn s) ≡ r → has (holds e) (rowsIn s) ≡ true
-    by (At i) at = has-found (holds e) (rowsIn s) i at
-    by Nothing at = let q = held-none e s at in let z : _≡_ {A = ℕ} 0 1 = cc in absurd (omega arith)
-
-  pub held-absent : heldNumber (find (holds e) free (rowsIn s)) ≡ Absent → has (holds e) (rowsIn s) ≡ false
-  held-absent h = by (firstFrom (holds e) 0 (rowsIn s)) refl where
-    by : (r : Found) → firstFrom (holds e) 0 (rowsIn s) ≡ r → has (holds e) (rowsIn s) ≡ false
-    by (At i) at = let q = held-found e s i at in let z : _≡_ {A = ℕ} 0 1 = cc in absurd (omega arith)
-    by Nothing at = has-none (holds e) (rowsIn s) at
-
-  module _ (n m : CsaNumber) (h : heldNumber (find (holds e) free (rowsIn s)) ≡ Holds m) (once : Once (rowsIn s)) where
-    pub held-stale : has (outOfDate e n) (rowsIn s) ≡ newer n m
-    held-stale = by (firstFrom (holds e) 0 (rowsIn s)) refl where
-      by : (r : Found) → firstFrom (holds e) 0 (rowsIn s) ≡ r → has (outOfDate e n) (rowsIn s) ≡ newer n m
-      by (At i) at = let q = held-found e s i at in let z : valueAt s (rowPlace i) .number ≡ m = cc in found-stale s e n i at once ∙ ap (newer n) z
-      by Nothing at = let q = held-none e s at in let z : _≡_ {A = ℕ} 0 1 = cc in absurd (omega arith)
-
-    pub held-ahead : has (ahead e n) (rowsIn s) ≡ newer m n
-    held-ahead = by (firstFrom (holds e) 0 (rowsIn s)) refl where
-      by : (r : Found) → firstFrom (holds e) 0 (rowsIn s) ≡ r → has (ahead e n) (rowsIn s) ≡ newer m n
-      by (At i) at = let q = held-found e s i at in let z : valueAt s (rowPlace i) .number ≡ m = cc in found-ahead s e n i at once ∙ ap (λ (x : CsaNumber). newer x n) z
-      by Nothing at = let q = held-none e s at in let z : _≡_ {A = ℕ} 0 1 = cc in absurd (omega arith)
-
--- ---- the rule of a record that is not null, by the number held
-module _ (r : CsaRecord) (s : List ℕ) (some : r .null ≡ false) where
-  pub rule-held : (m : CsaNumber) → heldNumber (find (holds (entryOf r)) free (rowsIn s)) ≡ Holds m → Once (rowsIn s)
-      → updateRule r (rowsIn s) ≡ pick (newer (r .number) m) stored (pick (newer m (r .number)) older equal)
-  rule-held m h once =
-      λ j. pick (some j) null
-      (pick (held-has (entryOf r) s m h j)
-      (pick (held-stale (entryOf r) s (r .number) m h once j) stored (pick (held-ahead (entryOf r) s (r .number) m h once j) older equal))
-      (pick (isPurged (r .number)) purgeAbsent (pick (has isFree (rowsIn s)) stored full)))
-
-  pub rule-absent : heldNumber (find (holds (entryOf r)) free (rowsIn s)) ≡ Absent
-      → updateRule r (rowsIn s) ≡ pick (isPurged (r .number)) purgeAbsent (pick (has isFree (rowsIn s)) stored full)
-  rule-absent h =
-      λ j. pick (some j) null
-      (pick (held-absent (entryOf r) s h j)
-      (pick (has (outOfDate (entryOf r) (r .number)) (rowsIn s)) stored (pick (has (ahead (entryOf r) (r .number)) (rowsIn s)) older equal))
-      (pick (isPurged (r .number)) purgeAbsent (pick (has isFree (rowsIn s)) stored full)))
+  pub up-none : (n : CsaNumber) → firstFrom (holds e) 0 (rowsIn s) ≡ Nothing → false ≡ upToDate n (entryRow e (rowsIn s))
+  up-none n none = sym (ap (upToDate n) (none-entry none))

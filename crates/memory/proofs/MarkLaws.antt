@@ -16,7 +16,7 @@ use Rattle.protocol.specs.Fields.{octet, field2, field4}
 use Rattle.protocol.specs.Numbers.{csaOf, newer}
 use Rattle.rules.specs.Server.{rowsMost, Row, free, used, isFree, isUsed, waitsFor, rowAt}
 use Rattle.rules.specs.Rows.{unmarked}
-use Rattle.rules.specs.Updates.{owed, replied}
+use Rattle.rules.specs.Updates.{waitsAgain, replied}
 use Rattle.memory.specs.Layout.{rowSize, requestSize, memorySize, rowPlace, markPlace, numberPlace}
 use Rattle.memory.specs.Memory.{entryAt, valueAt, isMarked, rowIn, rowsIn, memoryOf, withRows}
 use Rattle.memory.specs.Marks.{withMarks, marked, changedAt}
@@ -85,11 +85,11 @@ module _ (s : List ℕ) (i : ℕ) (h : i < rowsMost) where
   row-unmarked k = at-case s i h (λ r. withMarks (on k false (isMarked (octet s (markPlace i)))) r ≡ unmarked k r) refl refl
 
   -- a row owes its slot a record, if hops remain
-  pub owed-not : (k : ℕ) → field2 s (rowPlace i + 2) ≡ 0 → owed k (rowAt (rowsIn s) i) ≡ rowAt (rowsIn s) i
-  owed-not k z = at-case s i h (λ r. owed k r ≡ r) refl (rw (le-ltb 0 (field2 s (rowPlace i + 2)) (omega arith)))
+  pub owed-not : (k : ℕ) → field2 s (rowPlace i + 2) ≡ 0 → waitsAgain k (rowAt (rowsIn s) i) ≡ rowAt (rowsIn s) i
+  owed-not k z = at-case s i h (λ r. waitsAgain k r ≡ r) refl (rw (le-ltb 0 (field2 s (rowPlace i + 2)) (omega arith)))
 
-  pub owed-so : (k : ℕ) → (field2 s (rowPlace i + 2) ≡ 0 → ⊥) → marked k (rowAt (rowsIn s) i) ≡ owed k (rowAt (rowsIn s) i)
-  owed-so k n = at-case s i h (λ r. marked k r ≡ owed k r) refl (rw (lt-ltb 0 (field2 s (rowPlace i + 2)) (omega arith)))
+  pub owed-so : (k : ℕ) → (field2 s (rowPlace i + 2) ≡ 0 → ⊥) → marked k (rowAt (rowsIn s) i) ≡ waitsAgain k (rowAt (rowsIn s) i)
+  owed-so k n = at-case s i h (λ r. marked k r ≡ waitsAgain k r) refl (rw (lt-ltb 0 (field2 s (rowPlace i + 2)) (omega arith)))
 
   -- a reply settles a row, if its number is the one held
   module _ (k : ℕ) (number held : CsaNumber) (e : held ≡ csaOf (field4 s (rowPlace i + numberPlace))) where

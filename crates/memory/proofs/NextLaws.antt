@@ -14,12 +14,12 @@ use Rattle.laws.specs.Tables.{has}
 use Rattle.rules.specs.Server.{rowsMost, waitsFor, rowAt}
 use Rattle.rules.specs.Rows.{nextWaiting, behind}
 use Rattle.laws.proofs.Bools.{or-right}
-use Rattle.rules.proofs.TurnLaws.{far, far-row, turn}
+use Rattle.rules.proofs.NextLaws.{far, far-row, reached-or-nearer}
 use Rattle.memory.specs.Memory.{rowsIn}
 use Rattle.memory.specs.declared.next.Picks.{Picks}
 use Rattle.memory.specs.Marks.{picksOf, Picked, isPicked}
 
--- the place that `turn` speaks of is row i
+-- the place that `reached-or-nearer` speaks of is row i
 more-by : (a b x y : Bool) → (a ≡ true → x ≡ true) → (b ≡ true → y ≡ true) → (a || b) ≡ true → (x || y) ≡ true
 more-by true b x y f g h = rw (f refl)
 more-by false b x y f g h = or-right x y (g h)
@@ -38,7 +38,7 @@ module _ (s : List ℕ) (k c i : ℕ) (q : i < rowsMost) (t : waitsFor k (rowAt 
 
   -- a call from row c on
   pub nearer : (p : Picks) → Picked c (nextWaiting (rowsIn s) k c) p → isPicked i (picksOf p) ≡ false → 4 + far (behind c (picksOf p) % rowsMost) i ≤ far c i
-  nearer p e n = nearer-by (picksOf p) n (subst (λ l. (has (λ y. eqb y (c + far c i)) l ≡ true) ⊎ (4 + far (behind c l % rowsMost) i ≤ far c i)) (sym (e .chosen)) (turn (rowsIn s) k c i q t))
+  nearer p e n = nearer-by (picksOf p) n (subst (λ l. (has (λ y. eqb y (c + far c i)) l ≡ true) ⊎ (4 + far (behind c l % rowsMost) i ≤ far c i)) (sym (e .chosen)) (reached-or-nearer (rowsIn s) k c i q t))
 
 -- ---- calls in a row, each from the cursor after the one before, and each on a memory in which row i waits: all leave row i out
 pub record Call : Type 0 where

@@ -17,7 +17,7 @@ use Rattle.protocol.specs.Messages.{CsaRecord}
 use Rattle.rules.specs.Server.{Entry, Value, Row, free, used, isFree, holds, sameEntry, rowAt}
 use Rattle.rules.specs.Rows.{isPurged, anySlot, unmarked, spread, sweptRow, swept, filled}
 use Rattle.rules.specs.Requests.{entryOf}
-use Rattle.rules.specs.Updates.{hopsMost, value, changedRow, purgedRow, setRows, withdrawRows, purgeRows, UpdateRule, null, purgeAbsent, full, stored, equal, older, valueOf, renewed, owed, rowsBy, replied}
+use Rattle.rules.specs.Updates.{hopsMost, value, changedRow, purgedRow, setRows, withdrawRows, purgeRows, UpdateRule, null, purgeAbsent, full, stored, equal, older, valueOf, renewed, waitsAgain, rowsBy, replied}
 use Rattle.rules.specs.Demand3.{Once}
 use Rattle.rules.proofs.Entries.{entry-true, entry-refl}
 use Rattle.memory.specs.declared.rows.Found.{Found}
@@ -123,7 +123,7 @@ keeps-unmarked : (k : ℕ) → Keeps (unmarked k)
 keeps-unmarked k e free h = h
 keeps-unmarked k e (used f v m) h = h
 
-keeps-owed : (k : ℕ) → Keeps (owed k)
+keeps-owed : (k : ℕ) → Keeps (waitsAgain k)
 keeps-owed k e free h = h
 keeps-owed k e (used f v m) h = h
 
@@ -160,7 +160,7 @@ module _ (rows : List Row) (once : Once rows) where
   once-by stored live k r =
       once-put (entryOf r) (valueOf r) (spread live k (r .hops - 1)) (renewed live k r) (keeps-renewed live k r) (has (holds (entryOf r)) rows) refl
   once-by equal live k r = once-changed (holds (entryOf r)) (unmarked k) (keeps-unmarked k) rows once
-  once-by older live k r = once-changed (holds (entryOf r)) (owed k) (keeps-owed k) rows once
+  once-by older live k r = once-changed (holds (entryOf r)) (waitsAgain k) (keeps-owed k) rows once
 
   -- `reply_record`
   pub once-replied : (k : ℕ) (e : Entry) (n : CsaNumber) → Once (change (holds e) (replied k n) rows)

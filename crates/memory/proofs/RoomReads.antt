@@ -18,7 +18,7 @@ use Rattle.laws.proofs.Tables.{same-true}
 use Rattle.laws.proofs.Puts.{put-length}
 use Rattle.protocol.specs.declared.CsaNumber.{CsaNumber}
 use Rattle.protocol.specs.Fields.{octet, field2, field4, put2}
-use Rattle.protocol.specs.Numbers.{csa, csaOf, bitsOf, newer}
+use Rattle.protocol.specs.Numbers.{csaNumber, csaOf, bitsOf, newer}
 use Rattle.rules.specs.Server.{Entry, sameEntry, Request}
 use Rattle.rules.specs.Requests.{asks, raised}
 use Rattle.memory.specs.Layout.{memorySize, listPlace, requestPlace}
@@ -101,7 +101,7 @@ module _ (key originator : List ℕ) (number : CsaNumber) (short : length key �
       ap (λ (z : List ℕ). part z 8 4) g
       ∙ part-same 8 12 (putAt a 12 key) a (put-before a key 12 rb 8 12 (omega arith)) 8 4 (omega arith) (omega arith)
       ∙ ap (λ (z : List ℕ). part z 8 4) f ∙ part-put h originator 8 4 (omega arith) four in
-      let n : csaOf (field4 b 4) ≡ number = ap csaOf (number-is ∙ e) ∙ ap csa (toZ-ofZ w32 (number .0) fits) in
+      let n : csaOf (field4 b 4) ≡ number = ap csaOf (number-is ∙ e) ∙ ap csaNumber (toZ-ofZ w32 (number .0) fits) in
       λ i. record { entry = record { key = key-is i; originator = originator-is i }; number = n i }
 
 -- ---- a number raised

@@ -20,11 +20,11 @@ use Rattle.laws.specs.Lists.{part, table}
 use Rattle.laws.proofs.Bools.{or-false}
 use Rattle.protocol.specs.Fields.{octet, field2, field4}
 use Rattle.protocol.specs.Numbers.{csaOf}
-use Rattle.rules.specs.Server.{slotsMost, rowsMost, Entry, Value, Row, free, used, isFree, isUsed}
-use Rattle.rules.specs.Rows.{isPurged, anySlot, sweptRow}
+use Rattle.rules.specs.Server.{slotsMost, rowsMost, Row, free, used, isUsed}
+use Rattle.rules.specs.Rows.{isPurged, anySlot, toFree, sweptRow}
 use Rattle.memory.specs.Layout.{numberPlace, rowPlace, markPlace, listPlace, keptPlace}
 use Rattle.memory.specs.Memory.{entryAt, valueAt, isMarked, rowIn, rowsIn, requestIn, requestsIn, keptIn, memoryOf, withRows, freshMemory}
-use Rattle.memory.specs.Search.{withRow, goes, SweptTo, SweepsFour}
+use Rattle.memory.specs.Search.{withRow, SweptTo, SweepsFour}
 use Rattle.memory.proofs.RowPlaces.{row-get, used-row, free-row, octet-free, as-changed}
 use Rattle.memory.proofs.RowLoops.{changed-more}
 
@@ -79,7 +79,7 @@ module _ (b : ℕ) (low : b < 256) where
   pub any-slot : anySlot (isMarked b) ≡ not (eqb b 0)
   any-slot = any-by (anySlot (isMarked b)) refl
 
--- ---- a row that goes
+-- ---- a row to free
 and-not : (a b c : Bool) → b ≡ not c → c ≡ true → a ≡ (a && not b)
 and-not true b c e t = rw (e, t)
 and-not false b c e t = refl
@@ -88,41 +88,33 @@ and-yes : (a b c : Bool) → b ≡ not c → c ≡ false → false ≡ (a && not
 and-yes true b c e t = rw (e, t)
 and-yes false b c e t = refl
 
-goes-used : (b : Bool) (e : Entry) (v : Value) (m : ℕ → Bool) → b ≡ isFree (pick b free (used e v m))
-goes-used true e v m = refl
-goes-used false e v m = refl
-
 module _ (s : List ℕ) (i : ℕ) where
-  pub goes-free : isUsed (rowIn s i) ≡ false → false ≡ goes (rowIn s i)
-  goes-free u = ap goes (sym (free-row s i u))
+  pub stays-free : isUsed (rowIn s i) ≡ false → false ≡ toFree (rowIn s i)
+  stays-free u = ap toFree (sym (free-row s i u))
 
   module _ (u : isUsed (rowIn s i) ≡ true) (b : ℕ) (low : b < 256) (is : b ≡ octet s (markPlace i)) where
     any-mark : anySlot (isMarked (octet s (markPlace i))) ≡ not (eqb b 0)
     any-mark = ap (λ z. anySlot (isMarked z)) (sym is) ∙ any-slot b low
 
-    -- told by the test of `sweptRow`
-    told : (isPurged (valueAt s (rowPlace i) .number) && not (anySlot (isMarked (octet s (markPlace i))))) ≡ goes (rowIn s i)
-    told = goes-used _ (entryAt s (rowPlace i)) (valueAt s (rowPlace i)) (isMarked (octet s (markPlace i))) ∙ ap goes (sym (used-row s i u))
+    -- told by number and marks
+    told : (isPurged (valueAt s (rowPlace i) .number) && not (anySlot (isMarked (octet s (markPlace i))))) ≡ toFree (rowIn s i)
+    told = ap toFree (sym (used-row s i u))
 
-    pub goes-not : (b ≡ 0 → ⊥) → false ≡ goes (rowIn s i)
-    goes-not n =
+    pub stays-waiting : (b ≡ 0 → ⊥) → false ≡ toFree (rowIn s i)
+    stays-waiting n =
         and-yes (isPurged (valueAt s (rowPlace i) .number)) (anySlot (isMarked (octet s (markPlace i)))) (eqb b 0) any-mark (ne-eqb b 0 n) ∙ told
 
-    pub goes-if : {p : Bool} → b ≡ 0 → p ≡ isPurged (valueAt s (rowPlace i) .number) → p ≡ goes (rowIn s i)
-    goes-if z p =
+    pub free-if-purged : {p : Bool} → b ≡ 0 → p ≡ isPurged (valueAt s (rowPlace i) .number) → p ≡ toFree (rowIn s i)
+    free-if-purged z p =
         p
         ∙ and-not (isPurged (valueAt s (rowPlace i) .number)) (anySlot (isMarked (octet s (markPlace i)))) (eqb b 0) any-mark (eq-eqb b 0 z)
         ∙ told
 
-swept-by : (r : Row) → sweptRow r ≡ pick (goes r) free r
-swept-by free = refl
-swept-by (used e v m) = ap (λ b. pick b free (used e v m)) (goes-used (isPurged (v .number) && not (anySlot m)) e v m)
+pub swept-free : (r : Row) {g : Bool} → g ≡ toFree r → g ≡ true → sweptRow r ≡ free
+swept-free r e t = ap (λ b. pick b free r) (sym e ∙ t)
 
-pub swept-free : (r : Row) {g : Bool} → g ≡ goes r → g ≡ true → sweptRow r ≡ free
-swept-free r e t = swept-by r ∙ ap (λ b. pick b free r) (sym e ∙ t)
-
-pub swept-same : (r : Row) {g : Bool} → g ≡ goes r → g ≡ false → sweptRow r ≡ r
-swept-same r e t = swept-by r ∙ ap (λ b. pick b free r) (sym e ∙ t)
+pub swept-same : (r : Row) {g : Bool} → g ≡ toFree r → g ≡ false → sweptRow r ≡ r
+swept-same r e t = ap (λ b. pick b free r) (sym e ∙ t)
 
 -- ---- a row that stays, told by the first octet of its number
 -- 2147483647 is the bits 0x7FFFFFFF, no other

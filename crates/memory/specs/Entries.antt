@@ -7,10 +7,8 @@ use Rattle.laws.specs.Choice.{pick}
 use Rattle.laws.specs.Tables.{has, change}
 use Rattle.protocol.specs.declared.CsaNumber.{CsaNumber}
 use Rattle.protocol.specs.Messages.{CsaRecord}
-use Rattle.rules.specs.Server.{Entry, Value, Row, free, used, holds}
+use Rattle.rules.specs.Server.{Entry, Value, Row, used, holds}
 use Rattle.rules.specs.Rows.{filled}
-use Rattle.memory.specs.declared.entries.Held.{Held}
-use Rattle.memory.specs.declared.entries.Held.the-variants.{Number, Absent}
 use Rattle.memory.specs.Memory.{rowsIn, Memory, memoryOf, withRows}
 use Rattle.memory.specs.Search.{revalued}
 
@@ -32,8 +30,3 @@ rowsAs f s = withRows (f (rowsIn s)) (memoryOf s)
 -- a value and marks for an entry: in its row, or in the lowest free one
 abbrev pub putRows : Entry → Value → (ℕ → Bool) → List Row → List Row
 putRows e v m rows = pick (has (holds e) rows) (change (holds e) (revalued v m) rows) (filled (used e v m) rows)
-
--- the number that a row holds
-abbrev pub heldNumber : Row → Held
-heldNumber free = Absent
-heldNumber (used e v m) = Number (v .number)

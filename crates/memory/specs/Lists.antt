@@ -14,6 +14,7 @@ use Rattle.protocol.specs.Fields.{field2, field4, put4}
 use Rattle.protocol.specs.Numbers.{newer, csaOf}
 use Rattle.rules.specs.Server.{requestsMost, Entry, Request}
 use Rattle.rules.specs.Requests.{asks, upToDate, Wanted, join}
+use Rattle.rules.specs.Rows.{entryRow}
 use Rattle.memory.specs.Search.{entry}
 use Rattle.memory.specs.Layout.{numberPlace, listPlace}
 use Rattle.memory.specs.Memory.{entryAt, rowsIn, requestIn, requestsIn, memoryOf, withRequests, requestsOf}
@@ -61,12 +62,12 @@ pub record Joins (k : ℕ) (e : Entry) (n : CsaNumber) (missed : ℕ) (before af
 
 -- the list and the missed count after a summary of the entry: as `takenIn` of the rules, for a record of this key, originator and number
 abbrev pub wantedAfter : ℕ → Entry → CsaNumber → ℕ → List ℕ → Wanted
-wantedAfter k e n missed s = pick (has (upToDate e n) (rowsIn s)) (wantedNow k missed s) (join e n (wantedNow k missed s))
+wantedAfter k e n missed s = pick (upToDate n (entryRow e (rowsIn s))) (wantedNow k missed s) (join e n (wantedNow k missed s))
 
 pub record TakesIn (k : ℕ) (e : Entry) (n : CsaNumber) (missed : ℕ) (before after : List ℕ) (r : ℕ) : Type 0 where
   pub list : memoryOf after ≡ withRequests k (wantedAfter k e n missed before .requests) (memoryOf before)
   pub count : r ≡ wantedAfter k e n missed before .missed
-  pub kept : has (upToDate e n) (rowsIn before) ≡ true → after ≡ before
+  pub kept : upToDate n (entryRow e (rowsIn before)) ≡ true → after ≡ before
   pub full : has (asks e) (requestsOf (memoryOf before) k) ≡ false → ltb (length (requestsOf (memoryOf before) k)) requestsMost ≡ false → after ≡ before
 
 -- what a function ensures that goes past request i, one of those that go or one to move to w

@@ -2,7 +2,7 @@
 -- Assumes nothing.
 use Prim.Native.Nat.{ℕ, suc, _+_, _-_, _≤_}
 use mathlib.Core.Path.{_≡_}
-use mathlib.Core.Bool.{Bool, false, _&&_}
+use mathlib.Core.Bool.{Bool, false}
 use mathlib.Core.List.{List, [], _∷_, _++_, map}
 use lib.ListN.{length, take, drop, replicate}
 use lib.ListN as lists
@@ -12,7 +12,7 @@ use Rattle.laws.specs.Tables.{has}
 use Rattle.protocol.specs.Sizes.{idLength, keyMost, payloadMost}
 use Rattle.protocol.specs.Fields.{put2, put4}
 use Rattle.protocol.specs.Numbers.{bitsOf}
-use Rattle.rules.specs.Server.{Entry, Value, Row, free, used, isFree, isUsed}
+use Rattle.rules.specs.Server.{Entry, Value, Row, free, used, isFree}
 use Rattle.rules.specs.Rows.{filled, sweptRow}
 use Rattle.memory.specs.declared.rows.Found.{Found}
 use Rattle.memory.specs.declared.rows.Found.the-variants.{At, Nothing}
@@ -75,10 +75,6 @@ pub record Inserts (r : Row) (before after : List ℕ) (a : Inserted) : Type 0 w
   pub rows : memoryOf after ≡ withRows (filled r (rowsIn before)) (memoryOf before)
   pub answer : a ≡ pick (has isFree (rowsIn before)) Stored Full
   pub kept : has isFree (rowsIn before) ≡ false → after ≡ before
-
--- a row that the end of an event frees
-abbrev pub goes : Row → Bool
-goes r = isUsed r && isFree (sweptRow r)
 
 -- after is before with its first i rows swept
 abbrev pub SweptTo : ℕ → List ℕ → List ℕ → Type 0

@@ -6,27 +6,20 @@ ghost use lib.ListN.{length};
 ghost use Rattle.laws.specs.Tables as tables;
 ghost use Rattle.protocol.specs.Sizes.{payloadMost};
 ghost use Rattle.protocol.specs.Numbers as definition;
-ghost use Rattle.rules.specs.Server as server;
 ghost use Rattle.rules.specs.Server.{slotsMost, rowsMost, holds};
-ghost use Rattle.rules.specs.Rows.{unmarked};
+ghost use Rattle.rules.specs.Rows.{entryRow, unmarked};
 ghost use Rattle.rules.specs.Requests.{upToDate};
-ghost use Rattle.rules.specs.Updates.{value, stepped, changedRow, purgedRow, setRows, withdrawRows, purgeRows, stored, owed, rowsBy, replied};
+ghost use Rattle.rules.specs.Updates.{value, stepped, changedRow, purgedRow, setRows, withdrawRows, purgeRows, stored, waitsAgain, rowsBy, replied};
 ghost use Rattle.memory.specs.Layout.{memorySize};
 ghost use Rattle.memory.specs.Memory.{isMarked, rowIn, rowsIn, memoryOf};
 ghost use Rattle.memory.specs.Search.{entry, withRow, FitsRow};
-ghost use Rattle.memory.specs.Entries.{received, rowsAs, putRows, heldNumber};
-use crate::layout::ROWS;
+ghost use Rattle.memory.specs.Entries.{received, rowsAs, putRows};
 use crate::marks;
 use crate::rows;
 use crate::rows::Found;
 use crate::store;
 use protocol::CsaNumber;
 use protocol::Step;
-
-pub enum Held {
-    Number(CsaNumber),
-    Absent,
-}
 
 // ---- records of a CSU Request from slot k
 fn one_less(hops: u16) -> u16
@@ -89,10 +82,10 @@ pub fn equal_record(memory: &mut [u8], k: usize, key: &[u8], originator: &[u8])
     }
 }
 
-// A record older than what is held: slot k is owed the row.
+// A record older than what is held: slot k is waitsAgain the row.
 pub fn older_record(memory: &mut [u8], k: usize, key: &[u8], originator: &[u8])
     requires { ⌜ (length (now memory) ≡ memorySize) × (k < slotsMost) ⌝ }
-    ensures { λ _. ⌜ memoryOf (now (memory .exit)) ≡ rowsAs (tables.change (holds (entry (now (key .entry)) (now (originator .entry)))) (owed k)) (now (memory .entry)) ⌝ }
+    ensures { λ _. ⌜ memoryOf (now (memory .exit)) ≡ rowsAs (tables.change (holds (entry (now (key .entry)) (now (originator .entry)))) (waitsAgain k)) (now (memory .entry)) ⌝ }
     ensures kept { λ _. ⌜ (tables.has (holds (entry (now (key .entry)) (now (originator .entry)))) (rowsIn (now (memory .entry))) ≡ false → now (memory .exit) ≡ now (memory .entry)) ⌝ }
 {
     match rows::find(memory, key, originator) {
@@ -187,38 +180,13 @@ pub fn purge_entry(memory: &mut [u8], live: u8, key: &[u8], originator: &[u8])
 }
 
 // ---- what is held
-// The number of the first row that holds the entry.
-pub fn holds_number(memory: &[u8], key: &[u8], originator: &[u8]) -> Held
-    requires { ⌜ length (now memory) ≡ memorySize ⌝ }
-    ensures { λ r. ⌜ r ≡ heldNumber (tables.find (holds (entry (now (key .entry)) (now (originator .entry)))) server.free (rowsIn (now (memory .entry)))) ⌝ }
-{
-    match rows::find(memory, key, originator) {
-        Found::At(i) => Held::Number(rows::number_of(memory, i)),
-        Found::Nothing => Held::Absent,
-    }
-}
-
-fn row_up_to_date(memory: &[u8], i: usize, key: &[u8], originator: &[u8], number: CsaNumber) -> bool
-    requires { ⌜ (length (now memory) ≡ memorySize) × (i < rowsMost) ⌝ }
-    ensures { λ r. ⌜ r ≡ upToDate (entry (now (key .entry)) (now (originator .entry))) number (rowIn (now (memory .entry)) i) ⌝ }
-{
-    if !rows::row_is(memory, i, key, originator) {
-        return false;
-    }
-    !numbers::newer(number, rows::number_of(memory, i))
-}
-
-// Whether a row holds the entry with a number no smaller.
+// Whether the row of the entry has a number no smaller.
 pub fn is_up_to_date(memory: &[u8], key: &[u8], originator: &[u8], number: CsaNumber) -> bool
     requires { ⌜ length (now memory) ≡ memorySize ⌝ }
-    ensures { λ r. ⌜ r ≡ tables.has (upToDate (entry (now (key .entry)) (now (originator .entry))) number) (rowsIn (now (memory .entry))) ⌝ }
+    ensures { λ r. ⌜ r ≡ upToDate number (entryRow (entry (now (key .entry)) (now (originator .entry))) (rowsIn (now (memory .entry)))) ⌝ }
 {
-    let mut i: usize = 0;
-    while i < ROWS {
-        if row_up_to_date(memory, i, key, originator, number) {
-            return true;
-        }
-        i += 1;
+    match rows::find(memory, key, originator) {
+        Found::At(i) => !numbers::newer(number, rows::number_of(memory, i)),
+        Found::Nothing => false,
     }
-    false
 }

@@ -8,7 +8,7 @@ ghost use Rattle.laws.specs.Tables.{on};
 ghost use Rattle.protocol.specs.Fields.{octet};
 ghost use Rattle.rules.specs.Server.{slotsMost, rowsMost, isFree, waitsFor, rowAt};
 ghost use Rattle.rules.specs.Rows as rules;
-ghost use Rattle.rules.specs.Updates.{owed, replied};
+ghost use Rattle.rules.specs.Updates.{waitsAgain, replied};
 ghost use Rattle.memory.specs.Layout.{memorySize, markPlace};
 ghost use Rattle.memory.specs.Memory.{isMarked, rowsIn, memoryOf, withRows};
 ghost use Rattle.memory.specs.Marks.{marked, changedAt, PutMarks};
@@ -130,7 +130,7 @@ pub fn clear_mark(memory: &mut [u8], i: usize, k: usize)
 // An older record of row i's entry came from slot k: the row waits for it, if hops remain.
 pub fn owe(memory: &mut [u8], i: usize, k: usize)
     requires { ⌜ (length (now memory) ≡ memorySize) × ((i < rowsMost) × (k < slotsMost)) ⌝ }
-    ensures { λ _. ⌜ memoryOf (now (memory .exit)) ≡ changedAt (owed k) i (now (memory .entry)) ⌝ }
+    ensures { λ _. ⌜ memoryOf (now (memory .exit)) ≡ changedAt (waitsAgain k) i (now (memory .entry)) ⌝ }
     ensures kept { λ _. ⌜ (isFree (rowAt (rowsIn (now (memory .entry))) i) ≡ true → now (memory .exit) ≡ now (memory .entry)) ⌝ }
 {
     if octets::field2(memory, i * ROW_SIZE + 2) == 0 {

@@ -2,7 +2,7 @@
 ghost use mathlib.Core.Path.{_≡_};
 ghost use Prim.Native.Nat.{_<_, _≤_};
 ghost use lib.ListN.{length};
-ghost use Rattle.rules.specs.Server.{slotsMost, rowsMost};
+ghost use Rattle.rules.specs.Server.{slotsMost};
 ghost use Rattle.rules.specs.Rows.{nextUsed, usedFrom, nextWaiting};
 ghost use Rattle.memory.specs.Layout.{memorySize};
 ghost use Rattle.memory.specs.Memory.{rowsIn};

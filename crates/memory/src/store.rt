@@ -8,11 +8,11 @@ ghost use Rattle.laws.specs.Lists.{part};
 ghost use Rattle.laws.specs.Puts.{putAt, Put};
 ghost use Rattle.protocol.specs.Sizes.{payloadMost};
 ghost use Rattle.rules.specs.Server.{rowsMost, free, used};
-ghost use Rattle.rules.specs.Rows.{isPurged, sweptRow, swept};
+ghost use Rattle.rules.specs.Rows.{isPurged, toFree, sweptRow, swept};
 ghost use Rattle.rules.specs.Updates.{value};
 ghost use Rattle.memory.specs.Layout.{rowSize, memorySize, rowPlace};
 ghost use Rattle.memory.specs.Memory.{isMarked, rowIn, rowsIn, memoryOf, withRows, freshMemory};
-ghost use Rattle.memory.specs.Search.{entry, withRow, revalued, padded, valueHead, rowHead, rowOctets, revaluedOctets, FitsRow, PutRow, Inserts, goes, SweepsFour};
+ghost use Rattle.memory.specs.Search.{entry, withRow, revalued, padded, valueHead, rowHead, rowOctets, revaluedOctets, FitsRow, PutRow, Inserts, SweepsFour};
 use crate::layout::MARKS_AT;
 use crate::layout::NUMBER_PLACE;
 use crate::layout::PAYLOAD_PLACE;
@@ -213,7 +213,7 @@ pub fn is_purged(n: CsaNumber) -> bool
 
 fn is_gone(memory: &[u8], i: usize) -> bool
     requires { ⌜ (length (now memory) ≡ memorySize) × (i < rowsMost) ⌝ }
-    ensures { λ r. ⌜ r ≡ goes (rowIn (now (memory .entry)) i) ⌝ }
+    ensures { λ r. ⌜ r ≡ toFree (rowIn (now (memory .entry)) i) ⌝ }
 {
     if !rows::is_used(memory, i) {
         return false;

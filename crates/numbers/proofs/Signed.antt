@@ -1,8 +1,8 @@
 -- A signed number's bits, by the test for its sign.
 -- Assumes nothing.
-use Prim.Native.Nat.{ℕ, suc, _-_, _<_}
+use Prim.Native.Nat.{suc, _-_, _<_}
 use mathlib.Core.Path.{_≡_, refl, sym, ap, _∙_, subst}
-use mathlib.Core.Bool.{Bool, true, false}
+use mathlib.Core.Bool.{true, false}
 use native.Mathlib.Omega.{arith}
 use lib.IntN.{ℤ, pos, negsuc, natAbs, _+ℤ_, +ℤ-one}
 use lib.Signed.{leZ, nonNeg}
@@ -12,7 +12,7 @@ use mir.Val.{Fits, SFits, toZ, ofZ}
 use mir.ValLaws.{toZ-ofZ, toZ-pos}
 use Rattle.laws.proofs.Integers.{suc-fits}
 use Rattle.protocol.specs.declared.Step.the-variants.{Number, Spent}
-use Rattle.protocol.specs.Numbers.{csa, nextCsa}
+use Rattle.protocol.specs.Numbers.{csaNumber, nextCsa}
 
 -- y can be cast to `u32`
 pub record Cast (y : ℤ) : Type 0 where
@@ -54,11 +54,11 @@ next-fits z f t =
     subst (λ (y : ℤ). SFits w32 (y +ℤ pos 1)) (sym (toZ-ofZ w32 z f))
     (subst (λ (y : ℤ). SFits w32 y) (sym (+ℤ-one z)) (suc-fits z f (ap (leZ (pos 2147483646)) (sym (toZ-ofZ w32 z f)) ∙ t)))
 
-pub next-spent : (z : ℤ) → SFits w32 z → leZ (pos 2147483646) (toZ w32 (ofZ w32 z)) ≡ true → Spent ≡ nextCsa (csa z)
+pub next-spent : (z : ℤ) → SFits w32 z → leZ (pos 2147483646) (toZ w32 (ofZ w32 z)) ≡ true → Spent ≡ nextCsa (csaNumber z)
 next-spent z f t = rw (ap (leZ (pos 2147483646)) (sym (toZ-ofZ w32 z f)) ∙ t)
 
 pub next-number : (z : ℤ) → SFits w32 z → leZ (pos 2147483646) (toZ w32 (ofZ w32 z)) ≡ false
-    → Number (csa (toZ w32 (ofZ w32 (toZ w32 (ofZ w32 z) +ℤ pos 1)))) ≡ nextCsa (csa z)
+    → Number (csaNumber (toZ w32 (ofZ w32 (toZ w32 (ofZ w32 z) +ℤ pos 1)))) ≡ nextCsa (csaNumber z)
 next-number z f t =
-    ap (λ (y : ℤ). Number (csa y)) (toZ-ofZ w32 (toZ w32 (ofZ w32 z) +ℤ pos 1) (next-fits z f t) ∙ ap (λ (y : ℤ). y +ℤ pos 1) (toZ-ofZ w32 z f))
+    ap (λ (y : ℤ). Number (csaNumber y)) (toZ-ofZ w32 (toZ w32 (ofZ w32 z) +ℤ pos 1) (next-fits z f t) ∙ ap (λ (y : ℤ). y +ℤ pos 1) (toZ-ofZ w32 z f))
     ∙ rw (ap (leZ (pos 2147483646)) (sym (toZ-ofZ w32 z f)) ∙ t)

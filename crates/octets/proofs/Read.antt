@@ -1,11 +1,13 @@
 -- Fields read from what stands at a position and behind it.
 -- Assumes nothing.
-use Prim.Native.Nat.{ℕ, _+_, _*_}
-use mathlib.Core.Path.{_≡_, ap, _∙_}
-use mathlib.Core.List.{List}
+use Prim.Native.Nat.{ℕ, _+_, _-_, _*_, _≤_}
+use mathlib.Core.Path.{_≡_, sym, ap, _∙_}
+use mathlib.Core.List.{List, []}
 use native.Mathlib.Nat.{add-zero}
-use lib.ListN.{drop}
-use lib.Seq.{getD-drop}
+use native.Mathlib.Omega.{arith}
+use lib.ListN.{length, drop, drop-of-length-le, List·getD-eq-default}
+use lib.Seq.{getD-drop, take-all}
+use Rattle.laws.specs.Lists.{part}
 use Rattle.protocol.specs.Fields.{octet, field2, field4}
 
 module _ (p s : List ℕ) (at : ℕ) (e : s ≡ drop at p) where
@@ -21,3 +23,20 @@ module _ (p s : List ℕ) (at : ℕ) (e : s ≡ drop at p) where
   pub field4-read : {a b c d : ℕ} → a ≡ octet s 0 → b ≡ octet s 1 → c ≡ octet s 2 → d ≡ octet s 3
       → ((a * 256 + b) * 256 + c) * 256 + d ≡ field4 p at
   field4-read f g h k = λ i. ((here f i * 256 + behind 1 g i) * 256 + behind 2 h i) * 256 + behind 3 k i
+
+-- ---- past the end
+module _ (p : List ℕ) where
+  past : (i : ℕ) → length p ≤ i → octet p i ≡ 0
+  past i h = List·getD-eq-default p 0 h
+
+  pub field2-past : (at : ℕ) → length p ≤ at → 0 ≡ field2 p at
+  field2-past at h = rw (past at h, past (at + 1) (omega arith))
+
+  pub field2-last : (at : ℕ) → length p ≤ at + 1 → octet p at * 256 ≡ field2 p at
+  field2-last at h = rw (past (at + 1) h) (sym (add-zero (octet p at * 256)))
+
+  pub field4-past : (at : ℕ) → length p ≤ at → 0 ≡ field4 p at
+  field4-past at h = rw (past at h, past (at + 1) (omega arith), past (at + 2) (omega arith), past (at + 3) (omega arith))
+
+  pub part-past : (at n : ℕ) → length p ≤ at → [] ≡ part p at n
+  part-past at n h = rw (drop-of-length-le p h) (sym (take-all n [] (omega arith)))

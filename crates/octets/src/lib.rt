@@ -7,6 +7,16 @@ ghost use Rattle.laws.specs.Lists.{part};
 ghost use Rattle.laws.specs.Puts.{Put};
 ghost use Rattle.laws.specs.Tables as tables;
 ghost use Rattle.protocol.specs.Fields as fields;
+ghost use Rattle.protocol.specs.WellFormed.{Octets};
+
+// Each element of a slice of octets is below 256. It does nothing: a caller whose contract says so calls it for that fact.
+pub fn bounded(p: &[u8])
+    ensures { λ _. ⌜ Octets (now (p .entry)) ⌝ }
+{
+    if 0 < p.len() {
+        let _first = p[0];
+    }
+}
 
 pub fn octet(p: &[u8], at: usize) -> u8
     ensures { λ r. ⌜ r ≡ fields.octet (now (p .entry)) at ⌝ }
@@ -41,22 +51,48 @@ pub fn first(p: &[u8], n: usize) -> &[u8]
 pub fn part_of(p: &[u8], at: usize, n: usize) -> &[u8]
     ensures { λ r. ⌜ now r ≡ part (now (p .entry)) at n ⌝ }
 {
-    first(tail(p, at), n)
+    if p.len() <= at {
+        return &p[..0];
+    }
+    if p.len() - at < n {
+        return &p[at..];
+    }
+    let to = at + n;
+    &p[at..to]
 }
 
 pub fn field2(p: &[u8], at: usize) -> u16
     ensures { λ r. ⌜ r ≡ fields.field2 (now (p .entry)) at ⌝ }
 {
-    let s = tail(p, at);
-    (octet(s, 0) as u16) * 256 + (octet(s, 1) as u16)
+    if p.len() <= at {
+        return 0;
+    }
+    if p.len() - at < 2 {
+        return (p[at] as u16) * 256;
+    }
+    (p[at] as u16) * 256 + (p[at + 1] as u16)
 }
 
-pub fn field4(p: &[u8], at: usize) -> u32
+// A field that is not all there.
+fn short_field4(p: &[u8], at: usize) -> u32
     ensures { λ r. ⌜ r ≡ fields.field4 (now (p .entry)) at ⌝ }
 {
     let s = tail(p, at);
     (((octet(s, 0) as u32) * 256 + (octet(s, 1) as u32)) * 256 + (octet(s, 2) as u32)) * 256
         + (octet(s, 3) as u32)
+}
+
+pub fn field4(p: &[u8], at: usize) -> u32
+    ensures { λ r. ⌜ r ≡ fields.field4 (now (p .entry)) at ⌝ }
+{
+    if p.len() <= at {
+        return 0;
+    }
+    if p.len() - at < 4 {
+        return short_field4(p, at);
+    }
+    (((p[at] as u32) * 256 + (p[at + 1] as u32)) * 256 + (p[at + 2] as u32)) * 256
+        + (p[at + 3] as u32)
 }
 
 // src at a position of out: the next position. Below the writers: asks for the room.

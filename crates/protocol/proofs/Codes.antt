@@ -15,7 +15,7 @@ use Rattle.protocol.specs.Checksum.{goodSum}
 use Rattle.protocol.specs.Messages.{Message}
 use Rattle.protocol.specs.Checks.{mandatoryCheck}
 use Rattle.protocol.specs.Answers.{refuse, firstCode, lengthGood, versionGood, typeGood, noExtensions, fixedCode}
-use Rattle.protocol.specs.Reading.{kindOf, messageAt, malformed, message, byCheck, byCode, readPacket, codeOf}
+use Rattle.protocol.specs.Reading.{kindOf, messageAt, malformed, message, byCheck, byCode, readPacket, refusalOf}
 
 -- ---- over five tests and a check
 abbrev checkCode : Checked → ℕ
@@ -65,7 +65,7 @@ any-code true true true true true Fine = inl refl
 any-code true true true true true (Breaks at) = inr (inr (inr (inr (inr (inr refl)))))
 
 code-by : (w : ℕ) (k : Kind) (p : List ℕ) (l v t s x : Bool) (c : Checked) → mandatoryCheck w k p ≡ c
-    → codeOf (byCode (firstCode (refuse (not l) 5 ∷ refuse (not v) 6 ∷ refuse (not t) 7 ∷ refuse (not s) 8 ∷ refuse (not x) 9 ∷ [])) w k p) ≡ codeBy l v t s x c
+    → refusalOf (byCode (firstCode (refuse (not l) 5 ∷ refuse (not v) 6 ∷ refuse (not t) 7 ∷ refuse (not s) 8 ∷ refuse (not x) 9 ∷ [])) w k p) ≡ codeBy l v t s x c
 code-by w k p false v t s x c e = refl
 code-by w k p true false t s x c e = refl
 code-by w k p true true false s x c e = refl
@@ -86,38 +86,38 @@ module _ (w : ℕ) (p : List ℕ) where
   abbrev code : ℕ
   code = codeBy (lengthGood w p) (versionGood p) (typeGood p) (goodSum p) (noExtensions p) check
 
-  code-is : codeOf (readPacket w p) ≡ code
+  code-is : refusalOf (readPacket w p) ≡ code
   unfolding readPacket fixedCode
   code-is = code-by w (kindOf (octet p 1)) p (lengthGood w p) (versionGood p) (typeGood p) (goodSum p) (noExtensions p) check refl
 
-  tells : (n : ℕ) → codeOf (readPacket w p) ≡ n → Case n (lengthGood w p) (versionGood p) (typeGood p) (goodSum p) (noExtensions p) check
+  tells : (n : ℕ) → refusalOf (readPacket w p) ≡ n → Case n (lengthGood w p) (versionGood p) (typeGood p) (goodSum p) (noExtensions p) check
   tells n e =
       subst (λ (i : ℕ). Case i (lengthGood w p) (versionGood p) (typeGood p) (goodSum p) (noExtensions p) check) (sym code-is ∙ e)
       (case-of (lengthGood w p) (versionGood p) (typeGood p) (goodSum p) (noExtensions p) check)
 
-  pub code-5 : (codeOf (readPacket w p) ≡ 5) ↔ (lengthGood w p ≡ false)
+  pub code-5 : (refusalOf (readPacket w p) ≡ 5) ↔ (lengthGood w p ≡ false)
   code-5 = (tells 5, λ f. code-is ∙ rw f)
 
-  pub code-6 : (codeOf (readPacket w p) ≡ 6) ↔ ((lengthGood w p ≡ true) × (versionGood p ≡ false))
+  pub code-6 : (refusalOf (readPacket w p) ≡ 6) ↔ ((lengthGood w p ≡ true) × (versionGood p ≡ false))
   code-6 = (tells 6, λ f. code-is ∙ rw (f .0, f .1))
 
-  pub code-7 : (codeOf (readPacket w p) ≡ 7) ↔ ((lengthGood w p ≡ true) × (versionGood p ≡ true) × (typeGood p ≡ false))
+  pub code-7 : (refusalOf (readPacket w p) ≡ 7) ↔ ((lengthGood w p ≡ true) × (versionGood p ≡ true) × (typeGood p ≡ false))
   code-7 = (tells 7, λ f. code-is ∙ rw (f .0, f .1, f .2))
 
-  pub code-8 : (codeOf (readPacket w p) ≡ 8) ↔ ((lengthGood w p ≡ true) × (versionGood p ≡ true) × (typeGood p ≡ true) × (goodSum p ≡ false))
+  pub code-8 : (refusalOf (readPacket w p) ≡ 8) ↔ ((lengthGood w p ≡ true) × (versionGood p ≡ true) × (typeGood p ≡ true) × (goodSum p ≡ false))
   code-8 = (tells 8, λ f. code-is ∙ rw (f .0, f .1, f .2, f .3))
 
-  pub code-9 : (codeOf (readPacket w p) ≡ 9)
+  pub code-9 : (refusalOf (readPacket w p) ≡ 9)
       ↔ ((lengthGood w p ≡ true) × (versionGood p ≡ true) × (typeGood p ≡ true) × (goodSum p ≡ true) × (noExtensions p ≡ false))
   code-9 = (tells 9, λ f. code-is ∙ rw (f .0, f .1, f .2, f .3, f .4))
 
-  pub code-10 : (codeOf (readPacket w p) ≡ 10) ↔ (FixedGood w p × ((at : ℕ) × (mandatoryCheck w (kindOf (octet p 1)) p ≡ Breaks at)))
+  pub code-10 : (refusalOf (readPacket w p) ≡ 10) ↔ (FixedGood w p × ((at : ℕ) × (mandatoryCheck w (kindOf (octet p 1)) p ≡ Breaks at)))
   code-10 = (tells 10, λ f. code-is ∙ rw (f .0 .0, f .0 .1, f .0 .2, f .0 .3, f .0 .4, f .1 .1))
 
-  pub code-0 : (codeOf (readPacket w p) ≡ 0) ↔ (FixedGood w p × (mandatoryCheck w (kindOf (octet p 1)) p ≡ Fine))
+  pub code-0 : (refusalOf (readPacket w p) ≡ 0) ↔ (FixedGood w p × (mandatoryCheck w (kindOf (octet p 1)) p ≡ Fine))
   code-0 = (tells 0, λ f. code-is ∙ rw (f .0 .0, f .0 .1, f .0 .2, f .0 .3, f .0 .4, f .1))
 
-  pub no-other : AnyCode (codeOf (readPacket w p))
+  pub no-other : AnyCode (refusalOf (readPacket w p))
   no-other = subst AnyCode (sym code-is) (any-code (lengthGood w p) (versionGood p) (typeGood p) (goodSum p) (noExtensions p) check)
 
   -- the position that comes with code 10
@@ -137,7 +137,7 @@ module _ (w : ℕ) (p : List ℕ) where
       → FixedGood w p × (mandatoryCheck w (kindOf (octet p 1)) p ≡ Fine) × (messageAt w (kindOf (octet p 1)) p ≡ m)
   unfolding readPacket
   read-as m e =
-      let g : FixedGood w p × (check ≡ Fine) = code-0 .0 (ap codeOf e) in
+      let g : FixedGood w p × (check ≡ Fine) = code-0 .0 (ap refusalOf e) in
       (g .0, g .1, by-code (fixedCode w p) e)
     where
       by-check : (c : Checked) → byCheck c w (kindOf (octet p 1)) p ≡ message m → messageAt w (kindOf (octet p 1)) p ≡ m
@@ -147,3 +147,14 @@ module _ (w : ℕ) (p : List ℕ) where
       by-code : (n : ℕ) → byCode n w (kindOf (octet p 1)) p ≡ message m → messageAt w (kindOf (octet p 1)) p ≡ m
       by-code zero h = by-check check h
       by-code (suc n) h = cc
+
+-- ---- where it is malformed
+by-check : (w : ℕ) (k : Kind) (p : List ℕ) (l v t s x : Bool) → AllTrue l v t s x
+    → byCode (firstCode (refuse (not l) 5 ∷ refuse (not v) 6 ∷ refuse (not t) 7 ∷ refuse (not s) 8 ∷ refuse (not x) 9 ∷ [])) w k p ≡ byCheck (mandatoryCheck w k p) w k p
+by-check w k p l v t s x f = rw (f .0, f .1, f .2, f .3, f .4)
+
+pub reads-malformed : (w : ℕ) (p : List ℕ) (at : ℕ) → FixedGood w p → mandatoryCheck w (kindOf (octet p 1)) p ≡ Breaks at → readPacket w p ≡ malformed at
+unfolding readPacket fixedCode
+reads-malformed w p at f e =
+    by-check w (kindOf (octet p 1)) p (lengthGood w p) (versionGood p) (typeGood p) (goodSum p) (noExtensions p) f
+    ∙ ap (λ c. byCheck c w (kindOf (octet p 1)) p) e

@@ -16,7 +16,7 @@ use Rattle.protocol.specs.declared.Checked.the-variants.{Fine}
 use Rattle.protocol.specs.Fields.{octet, field2}
 use Rattle.protocol.specs.Messages.{CsaRecord}
 use Rattle.protocol.specs.Layouts.{recordsOctets, receiversOctets}
-use Rattle.protocol.specs.Checks.{isHello, elementCheck, elementSize, elementsCheck}
+use Rattle.protocol.specs.Checks.{isHelloKind, elementCheck, elementSize, elementsCheck}
 use Rattle.protocol.specs.Reading.{recordsAt, receiversAt}
 use Rattle.protocol.specs.WellFormed.{Id, GoodRecord}
 use Rattle.protocol.proofs.Places.{done, _also_, all-fine, field-fine}
@@ -48,7 +48,7 @@ pub record RecordsBack (w : ℕ) (k : Kind) (p : List ℕ) (at : ℕ) (rs : List
   pub fine : elementsCheck w k p (length rs) at ≡ Fine
   pub read : recordsAt w p (length rs) at ≡ rs
 
-module _ (w : ℕ) (k : Kind) (p : List ℕ) (plain : isHello k ≡ false) where
+module _ (w : ℕ) (k : Kind) (p : List ℕ) (plain : isHelloKind k ≡ false) where
   pub records-back : (rs : List CsaRecord) (beside : List ℕ) (at : ℕ) → drop at p ≡ recordsOctets beside rs → at ≤ length p → SmallBeside beside
       → All (GoodRecord w k) rs → RecordsBack w k p at rs
   unfolding recordsOctets recordsAt

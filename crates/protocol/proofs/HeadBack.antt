@@ -20,7 +20,7 @@ use Rattle.protocol.specs.Fields.{octet, field2}
 use Rattle.protocol.specs.Numbers as numbers
 use Rattle.protocol.specs.Messages.{CsaRecord, Body, ca, csuRequest, csuReply, csus, hello, Message, kindOfBody}
 use Rattle.protocol.specs.Layouts.{Ignored, bit, flagsOf, countOf, recordsOctets, beforeCommon, commonHead, elements}
-use Rattle.protocol.specs.Checks.{isHello, commonAt, beforeChecks, receiverLengthGood, countMost, commonChecks, elementsCheck}
+use Rattle.protocol.specs.Checks.{isHelloKind, commonAt, beforeChecks, receiverLengthGood, countMost, commonChecks, elementsCheck}
 use Rattle.protocol.specs.Reading.{flagsAt, bodyAt}
 use Rattle.protocol.specs.WellFormed.{GoodRecords, GoodBody, GoodReceiver}
 use Rattle.protocol.proofs.Places.{two-in, four-in, bit-back, bit-le, Fines, done, _also_, field-fine}
@@ -121,7 +121,7 @@ pub record BodyBack (w : ℕ) (p : List ℕ) (b : Body) (at : ℕ) : Type 0 wher
 
 module _ (w : ℕ) (p : List ℕ) (g : Ignored) (at : ℕ) (tail : List ℕ)
     (inside : at ≤ length p) (eight : 8 ≤ length p) (small : SmallBeside (g .beside)) where
-  records : (k : Kind) (rs : List CsaRecord) → isHello k ≡ false → drop at p ≡ recordsOctets (g .beside) rs → GoodRecords w k rs
+  records : (k : Kind) (rs : List CsaRecord) → isHelloKind k ≡ false → drop at p ≡ recordsOctets (g .beside) rs → GoodRecords w k rs
       → RecordsBack w k p at rs
   records k rs h e good = records-back w k p h rs (g .beside) at e inside small (good .each)
 
@@ -134,7 +134,7 @@ module _ (w : ℕ) (p : List ℕ) (g : Ignored) (at : ℕ) (tail : List ℕ)
         before = field-fine p 8 4 true i refl also done;
         few = good .1 .few;
         fine = s .fine;
-        read = λ j. ca (numbers.ca (four-in p 8 _ d 8 0 refl (n .0) refl refl refl refl j)) (flags-back p 18 (g .flags) f room o j) (s .read j);
+        read = λ j. ca (numbers.caNumber (four-in p 8 _ d 8 0 refl (n .0) refl refl refl refl j)) (flags-back p 18 (g .flags) f room o j) (s .read j);
       }
   body-back (csuRequest rs) d e o room good =
       let s = records CsuRequest rs refl e good in record { before = done; few = good .few; fine = s .fine; read = ap csuRequest (s .read) }

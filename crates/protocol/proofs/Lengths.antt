@@ -14,7 +14,7 @@ use Rattle.protocol.specs.declared.Kind.the-variants.{Ca, CsuRequest, Cs
 use Rattle.protocol.specs.Sizes.{keyMost, payloadMost, recordSize, packetMost, fixedSize}
 use Rattle.protocol.specs.Messages.{CsaRecord, Body, ca, csuRequest, csuReply, csus, hello, Message}
 use Rattle.protocol.specs.Layouts.{Ignored, recordOctets, recordsOctets, receiversOctets, beforeCommon, elements, mandatory, layout}
-use Rattle.protocol.specs.Checks.{isRequest}
+use Rattle.protocol.specs.Checks.{isRequestKind}
 use Rattle.protocol.specs.WellFormed.{Id, GoodRecord, GoodRecords, GoodBody, GoodReceiver, WellFormed}
 
 -- the longest payload in a packet, by whether it is a CSU Request
@@ -27,14 +27,14 @@ payload-fits true n h g = h
 payload-fits false n h g = let z = g refl in omega arith
 
 abbrev recordMost : ℕ → Kind → ℕ
-recordMost w k = recordSize + keyMost + w + payloadRoom (isRequest k)
+recordMost w k = recordSize + keyMost + w + payloadRoom (isRequestKind k)
 
 record-length : (w : ℕ) (k : Kind) (beside : ℕ) (r : CsaRecord) → GoodRecord w k r → length (recordOctets beside r) ≤ recordMost w k
 unfolding recordOctets
 record-length w k beside r good =
     let n : length (r .originator) ≡ w = good .originator .size in
-    let h : length (r .payload) ≤ payloadRoom (isRequest k) =
-    payload-fits (isRequest k) (length (r .payload)) (good .payload-fits) (λ e. ap length (good .summary-empty e)) in
+    let h : length (r .payload) ≤ payloadRoom (isRequestKind k) =
+    payload-fits (isRequestKind k) (length (r .payload)) (good .payload-fits) (λ e. ap length (good .summary-empty e)) in
     simp length-append (omega arith)
 
 records-length : (w : ℕ) (k : Kind) (rs : List CsaRecord) (beside : List ℕ) → All (GoodRecord w k) rs

@@ -20,7 +20,7 @@ use Rattle.protocol.specs.Sizes.{recordSize, commonSize, recordsMost}
 use Rattle.protocol.specs.Fields.{octet, field4}
 use Rattle.protocol.specs.Numbers as numbers
 use Rattle.protocol.specs.Messages.{Message}
-use Rattle.protocol.specs.Checks.{isHello, summarySize, payloadSize, countAt, elementsAt, elementsCheck}
+use Rattle.protocol.specs.Checks.{isHelloKind, summarySize, payloadSize, countAt, elementsAt, elementsCheck}
 use Rattle.protocol.specs.Reading.{kindOf, recordAt, recordsAt, receiversAt, messageAt, message, readPacket}
 use Rattle.protocol.specs.WellFormed.{Octets, Id, GoodRecord, GoodRecords, WellFormed}
 use Rattle.protocol.proofs.Codes.{read-as}
@@ -61,7 +61,7 @@ module _ (w : ℕ) (k : Kind) (p : List ℕ) (o : Octets p) (r : ℕ) (t : Recor
 
 -- ---- records and receivers
 module _ (w : ℕ) (p : List ℕ) (o : Octets p) where
-  good-records : (k : Kind) → isHello k ≡ false → (n at : ℕ) → n ≤ recordsMost → elementsCheck w k p n at ≡ Fine
+  good-records : (k : Kind) → isHelloKind k ≡ false → (n at : ℕ) → n ≤ recordsMost → elementsCheck w k p n at ≡ Fine
       → GoodRecords w k (recordsAt w p n at)
   good-records k e n at l h = record { few = rw (← (records-length w p n at)) l; each = each-record w k p (GoodRecord w k) (good-record w k p o) e n at h }
 
@@ -77,13 +77,13 @@ module _ (w : ℕ) (p : List ℕ) (o : Octets p) where
   id-sender k c t = record { size = sender-length w k p c t; octets = part-octets p o (c + commonSize) w }
 
   good-receiver : (k : Kind) (c : ℕ) → HeadTold w k p c
-      → Id w (part p (c + commonSize + w) (octet p (c + 9))) ⊎ ((isHello k ≡ true) × (part p (c + commonSize + w) (octet p (c + 9)) ≡ []))
+      → Id w (part p (c + commonSize + w) (octet p (c + 9))) ⊎ ((isHelloKind k ≡ true) × (part p (c + commonSize + w) (octet p (c + 9)) ≡ []))
   good-receiver k c t = ⊎-elim
       (λ e. inl record { size = receiver-length w k p c t ∙ e; octets = part-octets p o (c + commonSize + w) (octet p (c + 9)) })
       (λ e. inr (e .0, ap (part p (c + commonSize + w)) (e .1)))
       (t .receiver)
 
-  id-receiver : (k : Kind) (c : ℕ) → isHello k ≡ false → HeadTold w k p c → Id w (part p (c + commonSize + w) (octet p (c + 9)))
+  id-receiver : (k : Kind) (c : ℕ) → isHelloKind k ≡ false → HeadTold w k p c → Id w (part p (c + commonSize + w) (octet p (c + 9)))
   id-receiver k c n t = ⊎-elim (λ e. e) (λ e. absurd (false≢true (sym n ∙ e .0))) (good-receiver k c t)
 
   -- ---- the message

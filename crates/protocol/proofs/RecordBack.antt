@@ -18,17 +18,17 @@ use Rattle.protocol.specs.declared.CsaNumber.{CsaNumber}
 use Rattle.protocol.specs.declared.Checked.the-variants.{Fine}
 use Rattle.protocol.specs.Sizes.{keyMost, payloadMost, recordSize}
 use Rattle.protocol.specs.Fields.{octet, field2, field4}
-use Rattle.protocol.specs.Numbers.{csa, csaOf, bitsOf}
+use Rattle.protocol.specs.Numbers.{csaNumber, csaOf, bitsOf}
 use Rattle.protocol.specs.Messages.{CsaRecord}
 use Rattle.protocol.specs.Layouts.{bit, recordHead, recordOctets}
-use Rattle.protocol.specs.Checks.{isRequest, nullAt, summarySize, payloadSize, reservedBits, purgedBits, payloadGood, recordChecks, firstBreak}
+use Rattle.protocol.specs.Checks.{isRequestKind, nullAt, summarySize, payloadSize, reservedBits, purgedBits, payloadGood, recordChecks, firstBreak}
 use Rattle.protocol.specs.Reading.{recordAt}
 use Rattle.protocol.specs.WellFormed.{GoodRecord}
 use Rattle.protocol.proofs.Places.{two-in, four-in, bit-back, done, _also_, all-fine, field-fine}
 
 -- ---- CSA numbers
 number-back : (n : CsaNumber) → SFits w32 (n .0) → csaOf (bitsOf n) ≡ n
-number-back n f = ap csa (toZ-ofZ w32 (n .0) f)
+number-back n f = ap csaNumber (toZ-ofZ w32 (n .0) f)
 
 number-of : (n : CsaNumber) (bits : ℕ) → SFits w32 (n .0) → bitsOf n ≡ bits → n ≡ csaOf bits
 number-of n bits f e = sym (number-back n f) ∙ ap csaOf e
@@ -129,15 +129,15 @@ module _ (w : ℕ) (k : Kind) (p : List ℕ) (at : ℕ) (r : CsaRecord) (rest : 
   pub record-fine : firstBreak (recordChecks w k p at) ≡ Fine
   record-fine =
       let len : length (r .originator) ≡ w = good .originator .size in
-      let none : isRequest k ≡ false → field2 p (at + 2) ≡ summarySize w p at =
+      let none : isRequestKind k ≡ false → field2 p (at + 2) ≡ summarySize w p at =
       λ h. let z : length (r .payload) ≡ 0 = ap length (good .summary-empty h) in omega arith in
       all-fine (
       field-fine p at 2 _ (omega arith) (lt-ltb 0 (field2 p at) (omega arith))
       also field-fine p (at + 2) 2 _ (omega arith) (le-leb (at + field2 p (at + 2)) (length p) (s .room))
       also field-fine p (at + 4) 1 _ (omega arith)
-      (key-good (isRequest k) (octet p (at + 4)) (summarySize w p at) (field2 p (at + 2)) (omega arith) (omega arith) (omega arith) none)
+      (key-good (isRequestKind k) (octet p (at + 4)) (summarySize w p at) (field2 p (at + 2)) (omega arith) (omega arith) (omega arith) none)
       also field-fine p (at + 5) 1 _ (omega arith) (eq-eqb (octet p (at + 5)) w (s .originator-size ∙ len))
-      also field-fine p (at + 6) 2 _ (omega arith) (null-good (isRequest k) (nullAt p at) (λ h. s .null-at ∙ good .summary-plain h))
+      also field-fine p (at + 6) 2 _ (omega arith) (null-good (isRequestKind k) (nullAt p at) (λ h. s .null-at ∙ good .summary-plain h))
       also field-fine p (at + 8) 4 _ (omega arith)
       (ap not (ne-eqb (field4 p (at + 8)) reservedBits (λ e. good .not-reserved (number-good reservedBits e))))
       also field-fine p (at + recordSize) (octet p (at + 4)) true (omega arith) refl

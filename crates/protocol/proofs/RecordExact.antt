@@ -20,7 +20,7 @@ use Rattle.protocol.specs.Sizes.{recordSize}
 use Rattle.protocol.specs.Fields.{octet, field2, field4, put2, put4}
 use Rattle.protocol.specs.Numbers as numbers
 use Rattle.protocol.specs.Layouts.{bit, recordOctets, recordsOctets, receiversOctets}
-use Rattle.protocol.specs.Checks.{isHello, nullAt, summarySize, payloadSize, elementsCheck}
+use Rattle.protocol.specs.Checks.{isHelloKind, nullAt, summarySize, payloadSize, elementsCheck}
 use Rattle.protocol.specs.Reading.{recordAt, recordsAt, receiversAt}
 use Rattle.protocol.specs.WellFormed.{Octets}
 use Rattle.protocol.specs.Unread.{besideAt}
@@ -98,7 +98,7 @@ pub end-exact : (w : ℕ) (k : Kind) (p : List ℕ) (at : ℕ) → elementsCheck
 end-exact w k p at h = ap (λ (n : ℕ). drop n p) (end-told w k p at h) ∙ drop-length p
 
 module _ (w : ℕ) (p : List ℕ) (o : Octets p) where
-  pub records-exact : (k : Kind) → isHello k ≡ false → (n at : ℕ) → elementsCheck w k p n at ≡ Fine
+  pub records-exact : (k : Kind) → isHelloKind k ≡ false → (n at : ℕ) → elementsCheck w k p n at ≡ Fine
       → drop at p ≡ recordsOctets (besideAt p n at) (recordsAt w p n at)
   unfolding recordsOctets besideAt recordsAt
   records-exact k e zero at h = end-exact w k p at h

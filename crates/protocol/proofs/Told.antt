@@ -17,7 +17,7 @@ use Rattle.protocol.specs.declared.Checked.{Checked}
 use Rattle.protocol.specs.declared.Checked.the-variants.{Fine, Breaks}
 use Rattle.protocol.specs.Sizes.{keyMost, payloadMost}
 use Rattle.protocol.specs.Fields.{octet, field2, field4}
-use Rattle.protocol.specs.Checks.{rule, field, andThen, firstBreak, isRequest, isHello, commonAt, beforeChecks, receiverLengthGood, countMost, commonChecks, headCheck, nullAt, summarySize, payloadSize, keyLengthGood, reservedBits, purgedBits, payloadGood, recordChecks, receiverChecks, elementCheck, elementSize, elementsCheck, countAt, elementsAt, afterHead, mandatoryCheck}
+use Rattle.protocol.specs.Checks.{rule, field, andThen, firstBreak, isRequestKind, isHelloKind, commonAt, beforeChecks, receiverLengthGood, countMost, commonChecks, headCheck, nullAt, summarySize, payloadSize, keyLengthGood, reservedBits, purgedBits, payloadGood, recordChecks, receiverChecks, elementCheck, elementSize, elementsCheck, countAt, elementsAt, afterHead, mandatoryCheck}
 use Rattle.protocol.specs.Messages.{CsaRecord}
 use Rattle.protocol.specs.Reading.{recordAt, recordsAt}
 
@@ -58,9 +58,9 @@ pub record RecordTold (w : ℕ) (k : Kind) (p : List ℕ) (r : ℕ) : Type 0 whe
   pub some-key : 0 < octet p (r + 4)
   pub key-fits : octet p (r + 4) ≤ keyMost
   pub covers : summarySize w p r ≤ field2 p (r + 2)
-  pub no-more : isRequest k ≡ false → field2 p (r + 2) ≡ summarySize w p r
+  pub no-more : isRequestKind k ≡ false → field2 p (r + 2) ≡ summarySize w p r
   pub originator : octet p (r + 5) ≡ w
-  pub plain : isRequest k ≡ false → nullAt p r ≡ false
+  pub plain : isRequestKind k ≡ false → nullAt p r ≡ false
   pub number : field4 p (r + 8) ≡ reservedBits → ⊥
   pub payload-fits : payloadSize w p r ≤ payloadMost
   pub null-empty : nullAt p r ≡ true → payloadSize w p r ≡ 0
@@ -96,7 +96,7 @@ pub record-told : (w : ℕ) (k : Kind) (p : List ℕ) (r : ℕ) → firstBreak (
 record-told w k p r h =
     let f = all-fine (recordChecks w k p r) h in
     let len : ℕ = field2 p (r + 2) in
-    let key = key-told (isRequest k) (octet p (r + 4)) (summarySize w p r) len
+    let key = key-told (isRequestKind k) (octet p (r + 4)) (summarySize w p r) len
     (obeyed p (r + 4) 1 (keyLengthGood k (octet p (r + 4)) (summarySize w p r) len) (f .1 .1 .0)) in
     let n : ℕ = payloadSize w p r in
     let pay = payload-told (nullAt p r) (field4 p (r + 8)) n
@@ -109,7 +109,7 @@ record-told w k p r h =
       covers = key .2;
       no-more = key .3;
       originator = eqb-true (octet p (r + 5)) w (obeyed p (r + 5) 1 (eqb (octet p (r + 5)) w) (f .1 .1 .1 .0));
-      plain = plain-told (isRequest k) (nullAt p r) (obeyed p (r + 6) 2 (isRequest k || not (nullAt p r)) (f .1 .1 .1 .1 .0));
+      plain = plain-told (isRequestKind k) (nullAt p r) (obeyed p (r + 6) 2 (isRequestKind k || not (nullAt p r)) (f .1 .1 .1 .1 .0));
       number = eqb-false (field4 p (r + 8)) reservedBits (not-true (eqb (field4 p (r + 8)) reservedBits)
           (obeyed p (r + 8) 4 (not (eqb (field4 p (r + 8)) reservedBits)) (f .1 .1 .1 .1 .1 .0)));
       payload-fits = pay .0;
@@ -135,7 +135,7 @@ unfolding elementsCheck
 next-told w k p n at h = both-fine (elementCheck w k p at) (elementsCheck w k p n (at + elementSize w k p at)) h
 
 -- in all kinds but Hello they are records
-pub record-check : (w : ℕ) (k : Kind) (p : List ℕ) (at : ℕ) → isHello k ≡ false → elementCheck w k p at ≡ firstBreak (recordChecks w k p at)
+pub record-check : (w : ℕ) (k : Kind) (p : List ℕ) (at : ℕ) → isHelloKind k ≡ false → elementCheck w k p at ≡ firstBreak (recordChecks w k p at)
 unfolding elementCheck
 record-check w Ca p at h = refl
 record-check w CsuRequest p at h = refl
@@ -143,21 +143,21 @@ record-check w CsuReply p at h = refl
 record-check w Csus p at h = refl
 record-check w Hello p at h = absurd (true≢false h)
 
-pub record-size : (w : ℕ) (k : Kind) (p : List ℕ) (at : ℕ) → isHello k ≡ false → elementSize w k p at ≡ field2 p (at + 2)
+pub record-size : (w : ℕ) (k : Kind) (p : List ℕ) (at : ℕ) → isHelloKind k ≡ false → elementSize w k p at ≡ field2 p (at + 2)
 record-size w Ca p at h = refl
 record-size w CsuRequest p at h = refl
 record-size w CsuReply p at h = refl
 record-size w Csus p at h = refl
 record-size w Hello p at h = absurd (true≢false h)
 
-pub next-record : (w : ℕ) (k : Kind) (p : List ℕ) (n at : ℕ) → isHello k ≡ false → elementsCheck w k p (suc n) at ≡ Fine
+pub next-record : (w : ℕ) (k : Kind) (p : List ℕ) (n at : ℕ) → isHelloKind k ≡ false → elementsCheck w k p (suc n) at ≡ Fine
     → RecordTold w k p at × (elementsCheck w k p n (at + field2 p (at + 2)) ≡ Fine)
 next-record w k p n at e h =
     let f = next-told w k p n at h in
     (record-told w k p at (rw (record-check w k p at e) at (f .0)), rw (record-size w k p at e) at (f .1))
 
 -- so what holds of each that is fine holds of all that are read
-pub each-record : (w : ℕ) (k : Kind) (p : List ℕ) (P : CsaRecord → Type 0) → ((r : ℕ) → RecordTold w k p r → P (recordAt w p r)) → isHello k ≡ false
+pub each-record : (w : ℕ) (k : Kind) (p : List ℕ) (P : CsaRecord → Type 0) → ((r : ℕ) → RecordTold w k p r → P (recordAt w p r)) → isHelloKind k ≡ false
     → (n at : ℕ) → elementsCheck w k p n at ≡ Fine → All P (recordsAt w p n at)
 unfolding recordsAt
 each-record w k p P g e zero at h = tt
@@ -173,7 +173,7 @@ next-receiver w p n at h = let f = next-told w Hello p n at h in (receiver-told 
 -- ---- the head, its common part at c
 pub record HeadTold (w : ℕ) (k : Kind) (p : List ℕ) (c : ℕ) : Type 0 where
   pub sender : octet p (c + 8) ≡ w
-  pub receiver : (octet p (c + 9) ≡ w) ⊎ ((isHello k ≡ true) × (octet p (c + 9) ≡ 0))
+  pub receiver : (octet p (c + 9) ≡ w) ⊎ ((isHelloKind k ≡ true) × (octet p (c + 9) ≡ 0))
   pub few : field2 p (c + 10) ≤ countMost k
   pub ends : c + 12 + w + octet p (c + 9) ≤ length p
 
@@ -185,8 +185,8 @@ common-told w k p c h =
       sender = eqb-true (octet p (c + 8)) w (obeyed p (c + 8) 1 (eqb (octet p (c + 8)) w) (f .1 .1 .1 .1 .0));
       receiver = ⊎-elim
           (λ e. inl (eqb-true n w e))
-          (λ e. let g = and-true (isHello k) (eqb n 0) e in inr (g .0, eqb-true n 0 (g .1)))
-          (one-true (eqb n w) (isHello k && eqb n 0) (obeyed p (c + 9) 1 (receiverLengthGood w k n) (f .1 .1 .1 .1 .1 .0)));
+          (λ e. let g = and-true (isHelloKind k) (eqb n 0) e in inr (g .0, eqb-true n 0 (g .1)))
+          (one-true (eqb n w) (isHelloKind k && eqb n 0) (obeyed p (c + 9) 1 (receiverLengthGood w k n) (f .1 .1 .1 .1 .1 .0)));
       few = leb-true (field2 p (c + 10)) (countMost k)
           (obeyed p (c + 10) 2 (leb (field2 p (c + 10)) (countMost k)) (f .1 .1 .1 .1 .1 .1 .0));
       ends = inside p (c + 12 + w) n true (f .1 .1 .1 .1 .1 .1 .1 .1 .0);
@@ -194,7 +194,7 @@ common-told w k p c h =
 
 -- a Hello's interval and DeadFactor
 abbrev pub BeforeTold : Kind → List ℕ → Type 0
-BeforeTold k p = isHello k ≡ true → (0 < field2 p 8) × (0 < field2 p 10)
+BeforeTold k p = isHelloKind k ≡ true → (0 < field2 p 8) × (0 < field2 p 10)
 
 before-told : (k : Kind) (p : List ℕ) → firstBreak (beforeChecks k p) ≡ Fine → BeforeTold k p
 before-told Ca p h e = absurd (false≢true e)

@@ -29,7 +29,7 @@ sent b = record { protocol = 2; group = 7; sender = server 1; receiver = server 
 -- a record of 10.0.0.n with this hop count, N, number, key and payload
 abbrev entry : ℕ → ℕ → Bool → ℤ → List ℕ → List ℕ → CsaRecord
 entry n hops null x key payload =
-    record { hops = hops; null = null; number = numbers.csa x; key = key; originator = server n; payload = payload }
+    record { hops = hops; null = null; number = numbers.csaNumber x; key = key; originator = server n; payload = payload }
 
 abbrev summary : ℕ → ℤ → List ℕ → CsaRecord
 summary n x key = entry n 1 false x key []
@@ -59,7 +59,7 @@ good =
     81
     0x0101_0051_139f_0000_ffffffff_0002_0007_0000_a000_0404_0002_0a000001_0a000002_0001_0011_01_04_0000_80000001_41_0a000001_0001_0020_10_04_0000_7fffffff_0102030405060708090a0b0c0d0e0f10_0a000003
     (sent
-    (ca (numbers.ca 4294967295) (record { master = true; initial = false; more = true })
+    (ca (numbers.caNumber 4294967295) (record { master = true; initial = false; more = true })
     (summary 1 (negsuc 2147483646) (65 ∷ [])
     ∷ summary 3 (pos 2147483647) (octetsOf 16 0x0102030405060708090a0b0c0d0e0f10 [])
     ∷ [])))
@@ -95,7 +95,7 @@ ignoring =
     ∷ worked
     49
     0x0101_0031_e394_0000_00000001_0002_0007_0001_3fff_0404_0001_0a000001_0a000002_0001_0011_01_04_7fff_00000007_41_0a000001
-    (sent (ca (numbers.ca 1) (record { master = false; initial = false; more = true }) (summary 1 (pos 7) (65 ∷ []) ∷ [])))
+    (sent (ca (numbers.caNumber 1) (record { master = false; initial = false; more = true }) (summary 1 (pos 7) (65 ∷ []) ∷ [])))
     ∷ worked
     45
     0x0102_002d_a396_0000_0002_0007_0000_8000_0404_0001_0a000001_0a000002_0001_0011_01_04_8001_00000007_41_0a000001

@@ -31,19 +31,19 @@ abbrev pub firstBreak : List Checked → Checked
 firstBreak [] = Fine
 firstBreak (c ∷ cs) = andThen c (firstBreak cs)
 
-abbrev pub isRequest : Kind → Bool
-isRequest Ca = false
-isRequest CsuRequest = true
-isRequest CsuReply = false
-isRequest Csus = false
-isRequest Hello = false
+abbrev pub isRequestKind : Kind → Bool
+isRequestKind Ca = false
+isRequestKind CsuRequest = true
+isRequestKind CsuReply = false
+isRequestKind Csus = false
+isRequestKind Hello = false
 
-abbrev pub isHello : Kind → Bool
-isHello Ca = false
-isHello CsuRequest = false
-isHello CsuReply = false
-isHello Csus = false
-isHello Hello = true
+abbrev pub isHelloKind : Kind → Bool
+isHelloKind Ca = false
+isHelloKind CsuRequest = false
+isHelloKind CsuReply = false
+isHelloKind Csus = false
+isHelloKind Hello = true
 
 -- ---- the head: what stands before the common part, and the common part
 -- where the common part starts
@@ -65,7 +65,7 @@ beforeChecks Hello p =
 
 -- 'Receiver length 0 is right in Hello only'
 abbrev pub receiverLengthGood : ℕ → Kind → ℕ → Bool
-receiverLengthGood w k n = eqb n w || (isHello k && eqb n 0)
+receiverLengthGood w k n = eqb n w || (isHelloKind k && eqb n 0)
 
 -- 'at most 4 records in a packet (in a Hello 8 additional receivers)'
 abbrev pub countMost : Kind → ℕ
@@ -113,7 +113,7 @@ payloadSize w p r = field2 p (r + 2) - summarySize w p r
 
 -- 'keys of 1 to 16'; a record length covers key and originator, and in a summary no more
 abbrev pub keyLengthGood : Kind → ℕ → ℕ → ℕ → Bool
-keyLengthGood k key size len = (ltb 0 key && leb key keyMost) && (eqb len size || (isRequest k && leb size len))
+keyLengthGood k key size len = (ltb 0 key && leb key keyMost) && (eqb len size || (isRequestKind k && leb size len))
 
 -- 0x80000000, the bits of the reserved number, and 0x7FFFFFFF, those of 2147483647
 abbrev pub reservedBits : ℕ
@@ -138,7 +138,7 @@ recordLengthChecks w k p r =
 -- N, CSA sequence number, key, originator, payload
 abbrev pub recordContentChecks : ℕ → Kind → List ℕ → ℕ → List Checked
 recordContentChecks w k p r =
-    field p (r + 6) 2 (isRequest k || not (nullAt p r))
+    field p (r + 6) 2 (isRequestKind k || not (nullAt p r))
     ∷ field p (r + 8) 4 (not (eqb (field4 p (r + 8)) reservedBits))
     ∷ field p (r + recordSize) (octet p (r + 4)) true
     ∷ field p (r + recordSize + octet p (r + 4)) w true

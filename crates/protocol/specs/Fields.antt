@@ -1,7 +1,7 @@
 -- Document 01, 'Packet layouts': fields are big-endian. An octet beyond the end reads as 0.
 -- Assumes nothing.
 use Prim.Native.Nat.{ℕ, _+_, _*_, _/_, _%_}
-use mathlib.Core.List.{List, [], _∷_, _++_}
+use mathlib.Core.List.{List, _∷_}
 use lib.ListN.{getD}
 
 -- ---- reading

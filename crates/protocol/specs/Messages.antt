@@ -1,7 +1,7 @@
 -- What a packet means (document 01, 'Packet layouts'; RFC 2334, appendix B): its fields but for those that are ignored when read.
 -- Assumes nothing.
 use Prim.Native.Nat.{ℕ}
-use mathlib.Core.Bool.{Bool, true, false}
+use mathlib.Core.Bool.{Bool, false}
 use mathlib.Core.List.{List, []}
 use Rattle.protocol.specs.declared.CaNumber.{CaNumber}
 use Rattle.protocol.specs.declared.CsaNumber.{CsaNumber}

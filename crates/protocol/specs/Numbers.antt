@@ -12,34 +12,34 @@ use Rattle.protocol.specs.declared.CsaNumber.{CsaNumber}
 use Rattle.protocol.specs.declared.Step.{Step}
 use Rattle.protocol.specs.declared.Step.the-variants.{Number, Spent}
 
-abbrev pub ca : ℕ → CaNumber
-ca n = record { 0 = n }
+abbrev pub caNumber : ℕ → CaNumber
+caNumber n = record { 0 = n }
 
-abbrev pub csa : ℤ → CsaNumber
-csa n = record { 0 = n }
+abbrev pub csaNumber : ℤ → CsaNumber
+csaNumber n = record { 0 = n }
 
 -- 'one after 4294967295 comes 0'
 abbrev pub nextCa : CaNumber → CaNumber
-nextCa n = ca ((n .0 + 1) % 4294967296)
+nextCa n = caNumber ((n .0 + 1) % 4294967296)
 
 -- a CSA number of 32 bits, in two's complement, and its bits
 abbrev pub csaOf : ℕ → CsaNumber
-csaOf bits = csa (toZ w32 bits)
+csaOf bits = csaNumber (toZ w32 bits)
 
 abbrev pub bitsOf : CsaNumber → ℕ
 bitsOf n = ofZ w32 (n .0)
 
 -- -2147483648, 'is reserved'
 abbrev pub reserved : CsaNumber
-reserved = csa (negsuc 2147483647)
+reserved = csaNumber (negsuc 2147483647)
 
 -- -2147483647, the number of 'our new entry'
 abbrev pub firstNumber : CsaNumber
-firstNumber = csa (negsuc 2147483646)
+firstNumber = csaNumber (negsuc 2147483646)
 
 -- 2147483647, the number of a purged entry
 abbrev pub purged : CsaNumber
-purged = csa (pos 2147483647)
+purged = csaNumber (pos 2147483647)
 
 -- a is newer than b: 'its number is greater as a signed number'
 abbrev pub newer : CsaNumber → CsaNumber → Bool
@@ -51,4 +51,4 @@ spent n = leZ (pos 2147483646) (n .0)
 
 -- 'each change adds one', unless the number is spent
 abbrev pub nextCsa : CsaNumber → Step
-nextCsa n = pick (spent n) Spent (Number (csa (n .0 +ℤ pos 1)))
+nextCsa n = pick (spent n) Spent (Number (csaNumber (n .0 +ℤ pos 1)))

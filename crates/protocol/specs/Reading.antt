@@ -48,7 +48,7 @@ flagsAt p at = record { master = leb 128 (octet p at); initial = leb 64 (octet p
 
 -- with n records or receivers from a position on
 abbrev pub bodyAt : ℕ → Kind → List ℕ → ℕ → ℕ → Body
-bodyAt w Ca p n at = ca (numbers.ca (field4 p 8)) (flagsAt p 18) (recordsAt w p n at)
+bodyAt w Ca p n at = ca (numbers.caNumber (field4 p 8)) (flagsAt p 18) (recordsAt w p n at)
 bodyAt w CsuRequest p n at = csuRequest (recordsAt w p n at)
 bodyAt w CsuReply p n at = csuReply (recordsAt w p n at)
 bodyAt w Csus p n at = csus (recordsAt w p n at)
@@ -81,7 +81,7 @@ unfoldable pub readPacket : ℕ → List ℕ → Reading
 readPacket w p = byCode (fixedCode w p) w (kindOf (octet p 1)) p
 
 -- this paper's number for each
-abbrev pub codeOf : Reading → ℕ
-codeOf (refused c) = c
-codeOf (malformed at) = 10
-codeOf (message m) = 0
+abbrev pub refusalOf : Reading → ℕ
+refusalOf (refused c) = c
+refusalOf (malformed at) = 10
+refusalOf (message m) = 0

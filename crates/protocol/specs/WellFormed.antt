@@ -2,7 +2,7 @@
 -- Assumes nothing.
 use Prim.Native.Nat.{ℕ, _≤_, _<_}
 use mathlib.Core.Path.{_≡_}
-use mathlib.Core.Bool.{Bool, true, false}
+use mathlib.Core.Bool.{true, false}
 use mathlib.Core.List.{List, []}
 use mathlib.Core.Logic.{_⊎_}
 use lib.ListN.{length}
@@ -15,7 +15,7 @@ use Rattle.protocol.specs.Sizes.{keyMost, payloadMost, recordsMost, rece
 use Rattle.protocol.specs.Fields.{octet}
 use Rattle.protocol.specs.Numbers.{reserved, purged}
 use Rattle.protocol.specs.Messages.{CsaRecord, Body, ca, csuRequest, csuReply, csus, hello, Message}
-use Rattle.protocol.specs.Checks.{isRequest}
+use Rattle.protocol.specs.Checks.{isRequestKind}
 
 -- each element is an octet
 abbrev pub Octets : List ℕ → Type 0
@@ -40,8 +40,8 @@ pub record GoodRecord (w : ℕ) (k : Kind) (r : CsaRecord) : Type 0 where
   pub payload-octets : Octets (r .payload)
   pub null-empty : r .null ≡ true → r .payload ≡ []
   pub purged-empty : r .number ≡ purged → r .payload ≡ []
-  pub summary-plain : isRequest k ≡ false → r .null ≡ false
-  pub summary-empty : isRequest k ≡ false → r .payload ≡ []
+  pub summary-plain : isRequestKind k ≡ false → r .null ≡ false
+  pub summary-empty : isRequestKind k ≡ false → r .payload ≡ []
 
 pub record GoodRecords (w : ℕ) (k : Kind) (rs : List CsaRecord) : Type 0 where
   pub few : length rs ≤ recordsMost

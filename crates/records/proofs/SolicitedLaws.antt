@@ -2,59 +2,34 @@
 -- Assumes nothing.
 use Prim.Native.Nat.{ℕ, zero, suc, _+_, _*_, _≤_, _<_}
 use mathlib.Core.Path.{_≡_, refl, sym, ap, _∙_, subst}
-use mathlib.Core.Bool.{Bool, true}
 use mathlib.Core.List.{List, [], _∷_, _++_, append-nil, append-assoc}
 use native.Mathlib.Omega.{arith}
 use lib.ListN.{length}
 use Rattle.laws.specs.Lists.{All}
-use Rattle.protocol.specs.declared.CsaNumber.{CsaNumber}
 use Rattle.protocol.specs.Messages.{CsaRecord}
 use Rattle.protocol.specs.Sizes.{idLength}
 use Rattle.protocol.specs.Reading.{recordsAt}
-use Rattle.rules.specs.Server.{Entry, Row, free, used, isUsed}
-use Rattle.rules.specs.Requests.{entryOf, upToDate}
-use Rattle.rules.specs.Updates.{hopsMost, recordOf, nullRecord, solicitedOf, solicited, allSolicited}
-use Rattle.memory.specs.declared.rows.Found.{Found}
+use Rattle.rules.specs.Server.{holds}
+use Rattle.rules.specs.Requests.{entryOf}
+use Rattle.rules.specs.Updates.{nullRecord, solicitedOf, solicited, allSolicited}
 use Rattle.memory.specs.declared.rows.Found.the-variants.{At, Nothing}
-use Rattle.memory.specs.Layout.{rowPlace}
-use Rattle.memory.specs.Memory.{entryAt, valueAt, rowIn, rowsIn}
-use Rattle.memory.specs.Search.{entry, firstFrom}
-use Rattle.memory.proofs.SearchLaws.{find-first, find-none}
-use Rattle.memory.proofs.RowPlaces.{row-get, usedRow, used-row}
-use Rattle.memory.proofs.RowInsert.{found-below}
-use Rattle.memory.proofs.RowLaws.{found-first, has-none}
+use Rattle.memory.specs.Memory.{rowsIn}
+use Rattle.memory.specs.Search.{firstFrom}
+use Rattle.memory.proofs.EntryLaws.{found-entry, none-entry}
 use Rattle.wire.specs.declared.record.Csa.{Csa}
 use Rattle.wire.specs.declared.record.Cursor.{Cursor}
 use Rattle.wire.specs.declared.record.NextRecord.{NextRecord}
 use Rattle.wire.specs.declared.record.NextRecord.the-variants.{Record, NoRecord}
 use Rattle.wire.specs.Views.{csaRecordOf, recordsOf, Steps}
-use Rattle.records.specs.Walks.{Fits, Walks}
+use Rattle.records.specs.Walks.{Fits, Walks, answerBy}
 
 -- ---- one record
-up-used : (e : Entry) (n : CsaNumber) (r : Row) → upToDate e n r ≡ true → isUsed r ≡ true
-up-used e n free h = h
-up-used e n (used f v m) h = refl
-
 module _ (s : List ℕ) (r : CsaRecord) where
-  -- what a search for its key and originator found
-  pub found-for : (x y : Found) (k o : List ℕ) → x ≡ firstFrom (upToDate (entry k o) (r .number)) 0 (rowsIn s) → k ≡ r .key → o ≡ r .originator → x ≡ y
-      → firstFrom (upToDate (entryOf r) (r .number)) 0 (rowsIn s) ≡ y
-  found-for x y k o e a b f = sym (e ∙ (λ i. firstFrom (upToDate (entry (a i) (b i)) (r .number)) 0 (rowsIn s))) ∙ f
+  pub solicited-held : (i : ℕ) (v : CsaRecord) → firstFrom (holds (entryOf r)) 0 (rowsIn s) ≡ At i → v ≡ answerBy r s i → v ≡ solicited (rowsIn s) r
+  solicited-held i v at e = e ∙ sym (ap (solicitedOf r) (found-entry (entryOf r) s i at))
 
-  pub solicited-held : (i : ℕ) (v : CsaRecord) → firstFrom (upToDate (entryOf r) (r .number)) 0 (rowsIn s) ≡ At i
-      → v ≡ recordOf hopsMost (entryAt s (rowPlace i)) (valueAt s (rowPlace i)) → v ≡ solicited (rowsIn s) r
-  solicited-held i v at e =
-      let q : Row → Bool = upToDate (entryOf r) (r .number) in
-      let f = found-first q (rowsIn s) i at in
-      let g = row-get s i (found-below q s i at) in
-      let u : rowIn s i ≡ usedRow s i = used-row s i (up-used (entryOf r) (r .number) (rowIn s i) (sym (ap q g) ∙ f .passes)) in
-      e ∙ sym (ap (solicitedOf r) (find-first q (rowsIn s) i f ∙ g ∙ u))
-
-  pub solicited-null : (v : CsaRecord) → firstFrom (upToDate (entryOf r) (r .number)) 0 (rowsIn s) ≡ Nothing → v ≡ nullRecord r
-      → v ≡ solicited (rowsIn s) r
-  solicited-null v none e =
-      let q : Row → Bool = upToDate (entryOf r) (r .number) in
-      e ∙ sym (ap (solicitedOf r) (find-none q (rowsIn s) (has-none q (rowsIn s) none)))
+  pub solicited-null : (v : CsaRecord) → firstFrom (holds (entryOf r)) 0 (rowsIn s) ≡ Nothing → v ≡ nullRecord r → v ≡ solicited (rowsIn s) r
+  solicited-null v none e = e ∙ sym (ap (solicitedOf r) (none-entry (entryOf r) s none))
 
 -- ---- the records before a cursor
 records-length : (p : List ℕ) (n at : ℕ) → length (recordsAt idLength p n at) ≡ n

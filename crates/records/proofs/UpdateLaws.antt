@@ -12,7 +12,7 @@ use Rattle.rules.specs.Server.{Entry, Row, free, used, holds}
 use Rattle.rules.specs.Rows.{unmarked, filled}
 use Rattle.rules.specs.Requests.{entryOf, acknowledged, dropped}
 use Rattle.rules.specs.Updates as rules
-use Rattle.rules.specs.Updates.{updateRule, rowsBy, requestsBy, isAcknowledged, renewed, rowFor, owed, Updated, allUpdated}
+use Rattle.rules.specs.Updates.{updateRule, rowsBy, requestsBy, isAcknowledged, renewed, rowFor, waitsAgain, Updated, allUpdated}
 use Rattle.memory.specs.Memory.{rowsIn, Memory, memoryOf, withRows, withRequests, requestsOf}
 use Rattle.memory.specs.Search.{entry, FitsRow}
 use Rattle.memory.specs.Entries.{received, rowsAs}
@@ -64,8 +64,8 @@ module _ (rule : UpdateRule) (live : ℕ → Bool) (k : ℕ) (r : CsaRecord) (s 
     pub rows-equal : rule ≡ Equal → memoryOf t ≡ rowsAs (change (holds (entry key originator)) (unmarked k)) s → memoryOf t ≡ rowsAs (rowsBy (ruleOf rule) live k r) s
     rows-equal e h = rows-as Equal e (changed-entry (unmarked k) h)
 
-    pub rows-older : rule ≡ Older → memoryOf t ≡ rowsAs (change (holds (entry key originator)) (owed k)) s → memoryOf t ≡ rowsAs (rowsBy (ruleOf rule) live k r) s
-    rows-older e h = rows-as Older e (changed-entry (owed k) h)
+    pub rows-older : rule ≡ Older → memoryOf t ≡ rowsAs (change (holds (entry key originator)) (waitsAgain k)) s → memoryOf t ≡ rowsAs (rowsBy (ruleOf rule) live k r) s
+    rows-older e h = rows-as Older e (changed-entry (waitsAgain k) h)
 
 module _ (rule : UpdateRule) (live : ℕ → Bool) (k : ℕ) (r : CsaRecord) (s : List ℕ) where
   pub rows-null : rule ≡ Null → memoryOf s ≡ rowsAs (rowsBy (ruleOf rule) live k r) s

@@ -2,17 +2,18 @@
 -- Assumes nothing.
 use Prim.Native.Nat.{ℕ, _+_, _*_, _≤_}
 use mathlib.Core.Path.{_≡_}
-use mathlib.Core.Bool.{Bool, true, false, _||_}
+use mathlib.Core.Bool.{Bool}
 use mathlib.Core.List.{List, [], _∷_}
 use Rattle.laws.specs.Lists.{All}
-use Rattle.laws.specs.Tables.{has}
+use Rattle.laws.specs.Choice.{pick}
 use Rattle.protocol.specs.declared.CsaNumber.{CsaNumber}
+use Rattle.protocol.specs.Numbers.{newer}
 use Rattle.protocol.specs.Messages.{CsaRecord}
-use Rattle.rules.specs.Server.{Entry, Row, holds}
-use Rattle.rules.specs.Requests.{Wanted, takenIn, allTakenIn}
+use Rattle.rules.specs.Requests.{Wanted, allTakenIn}
 use Rattle.rules.specs.Updates as rules
-use Rattle.rules.specs.Updates.{outOfDate, ahead, Updated, allUpdated}
-use Rattle.memory.specs.Memory.{rowsIn, memoryOf, withRows, withRequests, requestsOf}
+use Rattle.rules.specs.Updates.{hopsMost, recordOf, nullRecord, Updated, allUpdated}
+use Rattle.memory.specs.Layout.{rowPlace}
+use Rattle.memory.specs.Memory.{entryAt, valueAt, rowsIn, memoryOf, withRows, withRequests, requestsOf}
 use Rattle.memory.specs.Search.{FitsRow}
 use Rattle.memory.specs.Lists.{wantedNow}
 use Rattle.wire.specs.declared.record.Cursor.{Cursor}
@@ -21,7 +22,6 @@ use Rattle.writer.specs.declared.write.Records.{Records}
 use Rattle.writer.specs.Write as writer
 use Rattle.records.specs.declared.standing.UpdateRule.{UpdateRule}
 use Rattle.records.specs.declared.standing.UpdateRule.the-variants.{Null, PurgeAbsent, Full, Stored, Equal, Older}
-use Rattle.records.specs.declared.standing.Standing.{Standing}
 
 abbrev pub csa : ℕ → Bool → CsaNumber → List ℕ → List ℕ → List ℕ → CsaRecord
 csa hops null number key originator payload = record {
@@ -55,6 +55,13 @@ pub record TakesAll (k : ℕ) (rs : List CsaRecord) (missed : ℕ) (before after
 abbrev pub TakesOne : ℕ → CsaRecord → ℕ → List ℕ → List ℕ → ℕ → Type 0
 TakesOne k v missed before after r = TakesAll k (v ∷ []) missed before after r
 
+-- ---- solicits
+-- the answer to a record by row i: as it is held, unless a greater number is asked for
+abbrev pub answerBy : CsaRecord → List ℕ → ℕ → CsaRecord
+answerBy r s i =
+    let v = valueAt s (rowPlace i) in
+    pick (newer (r .number) (v .number)) (nullRecord r) (recordOf hopsMost (entryAt s (rowPlace i)) v)
+
 -- ---- update records
 -- the rule of each case
 abbrev pub ruleOf : UpdateRule → rules.UpdateRule
@@ -64,15 +71,6 @@ ruleOf Full = rules.full
 ruleOf Stored = rules.stored
 ruleOf Equal = rules.equal
 ruleOf Older = rules.older
-
--- one more row looked at
-abbrev pub stoodBy : Entry → CsaNumber → Row → Standing → Standing
-stoodBy e n r s = record { held = s .held || holds e r; behind = s .behind || outOfDate e n r; ahead = s .ahead || ahead e n r }
-
-pub record Stands (e : Entry) (n : CsaNumber) (rows : List Row) (s : Standing) : Type 0 where
-  pub is-held : s .held ≡ has (holds e) rows
-  pub is-behind : s .behind ≡ has (outOfDate e n) rows
-  pub is-ahead : s .ahead ≡ has (ahead e n) rows
 
 -- the rows, slot k's requests and the acknowledged records
 abbrev pub updatedNow : ℕ → List CsaRecord → List ℕ → Updated

@@ -23,26 +23,26 @@ use Rattle.protocol.specs.Sizes.{idLength}
 use Rattle.protocol.specs.Messages.{Message, Body, ca, csuRequest, csuReply, csus, hello}
 use Rattle.protocol.specs.Reading.{Reading, refused, malformed, message, readPacket}
 use Rattle.rules.specs.Server.{rowsMost, Settings, Row, Slot, freshSlot, Server, slotAt}
-use Rattle.rules.specs.Links.{isDown, isLive, isPast, enters, upMove, downMove, helloMove, malformedMove, checkMove, CaRule, refuse, becomeSlave, becomeMaster, repeat, slaveOn, masterOn, masterDone, ignore, restart, caMove}
+use Rattle.rules.specs.Links.{isDown, isLive, isPast, enters, upMove, downMove, helloMove, malformedMove, checkMove, CaRule, refuseCa, becomeSlave, becomeMaster, repeat, slaveOn, masterOn, masterDone, ignore, restart, caMove}
 use Rattle.rules.specs.Rows.{nextWaiting, behind, rowsOf}
 use Rattle.rules.specs.Slots.{moved, emptied, withLink, withKept, helloSent, passed, alignedIf, completed}
 use Rattle.rules.specs.Sent.{octetsOf}
 use Rattle.rules.specs.Alignment.{CaPacket, caPacket, ruleFor, caSlot, taking, answering, answerMore}
 use Rattle.rules.specs.Packets.{slotOn, namesUs}
-use Rattle.rules.specs.Poll.{Due, none, aHello, firstCa, keptCa, aCsus, anUpdate, caInterval, firstFlags, requestRecord, heldRecord, slotBy, dueOf, keptDropped, checked, pollSlot}
+use Rattle.rules.specs.Poll.{Due, nothingDue, aHello, firstCa, keptCa, aCsus, anUpdate, caInterval, firstFlags, requestRecord, heldRecord, dueSlot, dueOf, keptDropped, checked, pollSlot}
 use Rattle.rules.specs.Poll as polls
 use Rattle.rules.specs.Refusals.{pollCode}
 use Rattle.rules.specs.Events.{Event, addPeer, linkUp, linkDown, packet, poll, set, withdraw, purge, counts, codeOf, liveIn, readSlot, slotAfter, acted, serverIf, sentIf, step, writtenAt}
-use Rattle.rules.specs.Demand3.{isPollOf, isRequest, requestIn}
+use Rattle.rules.specs.Demand3.{isPollOf, isRequestType, requestRecords}
 use Rattle.rules.proofs.Relation.{Inv}
 use Rattle.rules.proofs.RequestBack.{not-hello, not-ca, not-csus}
-use Rattle.rules.proofs.Kept.{KeptCa, Plain, plain-checked}
+use Rattle.rules.proofs.Kept.{KeepsCa, KeptCa, no-request, kept-checked}
 use Rattle.rules.proofs.Sent.{update-back, peer-length}
 
 -- the cursor c of slot k becomes c′: it stood and no update request was written to k, or the next waiting rows were and it is behind them
 pub data CursorStep (rows : List Row) (k c c′ : ℕ) (polled : Bool) (written : List ℕ) : Type 0 where
-  stood : c′ ≡ c → (polled && isRequest written) ≡ false → CursorStep rows k c c′ polled written
-  sends : polled ≡ true → requestIn written ≡ rowsOf heldRecord rows (nextWaiting rows k c) → c′ ≡ behind c (nextWaiting rows k c) % rowsMost
+  stood : c′ ≡ c → (polled && isRequestType written) ≡ false → CursorStep rows k c c′ polled written
+  sends : polled ≡ true → requestRecords written ≡ rowsOf heldRecord rows (nextWaiting rows k c) → c′ ≡ behind c (nextWaiting rows k c) % rowsMost
       → CursorStep rows k c c′ polled written
 
 -- ---- a live state is not entered from Down or Negotiate
@@ -94,7 +94,7 @@ module _ (s : Settings) (now : ℕ) (rows : List Row) (c : CaPacket) (x : Slot) 
   linkBy u = caMove u (c .seen) (answerMore u rows x) (x .link)
 
   cursor-ca : (u : CaRule) → Live (caSlot u s now rows c x) → caSlot u s now rows c x .cursor ≡ x .cursor
-  cursor-ca refuse h = refl
+  cursor-ca refuseCa h = refl
   cursor-ca becomeSlave h = cursor-completed (linkBy becomeSlave) x (answering becomeSlave s now rows c x) refl refl h
   cursor-ca becomeMaster h = cursor-completed (linkBy becomeMaster) x (answering becomeMaster s now rows c x) refl refl h
   cursor-ca repeat h = refl
@@ -126,13 +126,13 @@ cursor-checked now x =
     let g = cursor-moved (checkMove now (x .link)) x in
     pick-of (λ (z : Slot). Live z → z .cursor ≡ x .cursor) (isPast (y .link .alignment) && passed caInterval (y .timers .ca) now) (withKept [] y) y g g
 
-cursor-due : (s : Server) → Inv s → (now k : ℕ) (y : Slot) → Plain y → length (y .peer) ≡ idLength → (c : ℕ) → (Live y → y .cursor ≡ c) → (d : Due)
-    → Live (slotBy d (s .settings) now (s .rows) k y)
-    → CursorStep (s .rows) k c (slotBy d (s .settings) now (s .rows) k y .cursor) true (octetsOf (polls.sentBy d (s .settings) (s .rows) k y))
-cursor-due s v now k y p l c g none h = stood (g h) refl
+cursor-due : (s : Server) → Inv s → (now k : ℕ) (y : Slot) → KeepsCa y → length (y .peer) ≡ idLength → (c : ℕ) → (Live y → y .cursor ≡ c) → (d : Due)
+    → Live (dueSlot d (s .settings) now (s .rows) k y)
+    → CursorStep (s .rows) k c (dueSlot d (s .settings) now (s .rows) k y .cursor) true (octetsOf (polls.dueSent d (s .settings) (s .rows) k y))
+cursor-due s v now k y p l c g nothingDue h = stood (g h) refl
 cursor-due s v now k y p l c g aHello h = stood (g h) (not-hello (s .settings) y)
 cursor-due s v now k y p l c g firstCa h = stood (g h) (not-ca (s .settings) y (y .link .number) firstFlags [])
-cursor-due s v now k y p l c g keptCa h = stood (g h) p
+cursor-due s v now k y p l c g keptCa h = stood (g h) (no-request (y .link .alignment) (y .kept) p)
 cursor-due s v now k y p l c g aCsus h = stood (g h) (not-csus (s .settings) y (map requestRecord (take 4 (y .requests))))
 cursor-due s v now k y p l c g anUpdate h = rw (sym (g h)) (sends refl (update-back s v k y l) refl)
 
@@ -143,7 +143,7 @@ cursor-poll : (s : Server) → Inv s → KeptCa s → (k now room : ℕ) → eqb
 cursor-poll s v a k now room e h =
     let x = slotAt s k in
     let y = keptDropped now (checked now x) in
-    cursor-due s v now k y (plain-checked now x (a k)) (peer-length s v k now room e) (x .cursor) (cursor-checked now x)
+    cursor-due s v now k y (kept-checked now x (a k)) (peer-length s v k now room e) (x .cursor) (cursor-checked now x)
     (dueOf (s .settings) now (s .rows) k y) h
 
 -- ---- the slots

@@ -1,18 +1,19 @@
 -- Laws of entries: the test of two is their equality, and each change of a row leaves its entry in it.
 -- Assumes nothing.
 use Prim.Native.Nat.{ℕ}
-use mathlib.Core.Path.{_≡_, refl, ap}
-use mathlib.Core.Bool.{Bool, true, false}
+use mathlib.Core.Path.{_≡_, refl, sym, ap}
+use mathlib.Core.Bool.{Bool, true, false, false≢true}
 use mathlib.Core.List.{List}
-use Rattle.laws.specs.Tables.{on, same}
+use Rattle.laws.specs.Tables.{on, has, same}
 use Rattle.laws.proofs.Bools.{and-true, pick-of}
+use Rattle.laws.proofs.Cells.{find-has, find-none}
 use Rattle.laws.proofs.Tables.{same-refl, same-true, same-sym}
 use Rattle.protocol.specs.declared.CsaNumber.{CsaNumber}
 use Rattle.protocol.specs.Numbers.{newer}
 use Rattle.protocol.specs.Messages.{CsaRecord}
-use Rattle.rules.specs.Server.{Entry, sameEntry, Value, Row, free, used, isFree, holds}
-use Rattle.rules.specs.Rows.{unmarked}
-use Rattle.rules.specs.Updates.{changedRow, purgedRow, renewed, owed, replied}
+use Rattle.rules.specs.Server.{Entry, sameEntry, Value, Row, free, used, isFree, isUsed, holds}
+use Rattle.rules.specs.Rows.{entryRow, unmarked}
+use Rattle.rules.specs.Updates.{changedRow, purgedRow, renewed, waitsAgain, replied}
 
 pub entry-refl : (e : Entry) → sameEntry e e ≡ true
 entry-refl e = rw (same-refl (e .key)) (same-refl (e .originator))
@@ -34,6 +35,18 @@ entry-along t e f h = ap t (entry-true e f h)
 pub holds-along : (e f : Entry) (r : Row) → sameEntry e f ≡ true → holds e r ≡ holds f r
 holds-along e f r h = entry-along (λ g. holds g r) e f h
 
+-- ---- an entry has a row, or none
+used-holds : (e : Entry) (r : Row) → holds e r ≡ true → isUsed r ≡ true
+used-holds e free h = absurd (false≢true h)
+used-holds e (used f v m) h = refl
+
+there-by : (e : Entry) (rows : List Row) (b : Bool) → has (holds e) rows ≡ b → b ≡ isUsed (entryRow e rows)
+there-by e rows true h = sym (used-holds e (entryRow e rows) (find-has free (holds e) rows h))
+there-by e rows false h = ap isUsed (sym (find-none free (holds e) rows h))
+
+pub row-there : (e : Entry) (rows : List Row) → has (holds e) rows ≡ isUsed (entryRow e rows)
+row-there e rows = there-by e rows (has (holds e) rows) refl
+
 -- ---- two rows that are free, or hold the same entry
 pub record Alike (a b : Row) : Type 0 where
   pub frees : isFree b ≡ isFree a
@@ -49,9 +62,9 @@ pub alike-unmarked : (k : ℕ) (r : Row) → Alike r (unmarked k r)
 alike-unmarked k free = alike-free
 alike-unmarked k (used e v m) = alike-used e v _ m _
 
-pub alike-owed : (k : ℕ) (r : Row) → Alike r (owed k r)
-alike-owed k free = alike-free
-alike-owed k (used e v m) = alike-used e v _ m _
+pub alike-waitsAgain : (k : ℕ) (r : Row) → Alike r (waitsAgain k r)
+alike-waitsAgain k free = alike-free
+alike-waitsAgain k (used e v m) = alike-used e v _ m _
 
 pub alike-replied : (k : ℕ) (n : CsaNumber) (r : Row) → Alike r (replied k n r)
 alike-replied k n free = alike-free

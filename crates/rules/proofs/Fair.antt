@@ -23,12 +23,12 @@ use Rattle.rules.specs.Poll.{heldRecord}
 use Rattle.rules.specs.Events.{Event, step, writtenAt, Item, itemOf, items, liveIn}
 use Rattle.rules.specs.History as history
 use Rattle.rules.specs.History.{History, add}
-use Rattle.rules.specs.Demand3.{isPollOf, isRequest, requestIn, isUpdateTo, isUpdateOf, WaitsThrough}
+use Rattle.rules.specs.Demand3.{isPollOf, isRequestType, requestRecords, isUpdateTo, isUpdateOf, WaitsThrough}
 use Rattle.rules.proofs.Relation.{Inv, Rel}
 use Rattle.rules.proofs.Invariant.{inv-step}
 use Rattle.rules.proofs.RelStep.{rel-step}
 use Rattle.rules.proofs.Waits.{waiting-row}
-use Rattle.rules.proofs.TurnLaws.{far, far-row, turn}
+use Rattle.rules.proofs.NextLaws.{far, far-row, reached-or-nearer}
 use Rattle.rules.proofs.Kept.{KeptCa, kept-step}
 use Rattle.rules.proofs.Cursor.{CursorStep, stood, sends, cursor-step}
 use Rattle.rules.proofs.Stays.{stays}
@@ -60,29 +60,29 @@ update-by : (p : CsaRecord → Bool) (rs : List CsaRecord) (b : Bool) → has p 
 update-by p rs true h = h
 update-by p rs false h = h
 
-update-of : (p : CsaRecord → Bool) (polled : Bool) (w : List ℕ) → polled ≡ true → has p (requestIn w) ≡ true → ((polled && isRequest w) && has p (requestIn w)) ≡ true
-update-of p polled w e h = rw e (update-by p (recordsAt idLength w (field2 w 18) 28) (isRequest w) h)
+update-of : (p : CsaRecord → Bool) (polled : Bool) (w : List ℕ) → polled ≡ true → has p (requestRecords w) ≡ true → ((polled && isRequestType w) && has p (requestRecords w)) ≡ true
+update-of p polled w e h = rw e (update-by p (recordsAt idLength w (field2 w 18) 28) (isRequestType w) h)
 
 -- ---- one event brings the cursor no further away, and an update request that leaves the entry out brings it nearer
 far-same : (c d i : ℕ) → c ≡ d → 0 + far c i ≤ far d i
 far-same c d i z = rw z (omega arith)
 
 near : (rows : List Row) (k i : ℕ) (e : Entry) → i < 64 → holds e (rowAt rows i) ≡ true → waitsFor k (rowAt rows i) ≡ true
-    → (c c′ : ℕ) (polled : Bool) (w : List ℕ) → CursorStep rows k c c′ polled w → ((polled && isRequest w) && has (isE e) (requestIn w)) ≡ false
-    → pick (polled && isRequest w) 4 0 + far c′ i ≤ far c i
+    → (c c′ : ℕ) (polled : Bool) (w : List ℕ) → CursorStep rows k c c′ polled w → ((polled && isRequestType w) && has (isE e) (requestRecords w)) ≡ false
+    → pick (polled && isRequestType w) 4 0 + far c′ i ≤ far c i
 near rows k i e q p t c c′ polled w (stood z u) n = rw u (far-same c′ c i z)
-near rows k i e q p t c c′ polled w (sends o b z) n = by (turn rows k c i q t) where
+near rows k i e q p t c c′ polled w (sends o b z) n = by (reached-or-nearer rows k c i q t) where
   by : (has (λ y. eqb y (c + far c i)) (nextWaiting rows k c) ≡ true) ⊎ (4 + far (behind c (nextWaiting rows k c) % rowsMost) i ≤ far c i)
-      → pick (polled && isRequest w) 4 0 + far c′ i ≤ far c i
+      → pick (polled && isRequestType w) 4 0 + far c′ i ≤ far c i
   by (inl h) =
       absurd (false≢true (sym n
       ∙ update-of (isE e) polled w o (ap (has (isE e)) b ∙ written-so rows e (c + far c i) (rw (far-row c i q) p) (nextWaiting rows k c) h)))
   by (inr h) =
       let q : 4 + far c′ i ≤ far c i = rw z h in
-      pick-of (λ (n : ℕ). n + far c′ i ≤ far c i) (polled && isRequest w) 4 0 q (omega arith)
+      pick-of (λ (n : ℕ). n + far c′ i ≤ far c i) (polled && isRequestType w) 4 0 q (omega arith)
 
 -- ---- while it is left out, the update requests are few
-through-now : (c : Settings) (k : ℕ) (e : Entry) (h : History) (is : List Item) → WaitsThrough c k e h is → has (history.waitsFor k e) (h .entries) ≡ true
+through-now : (c : Settings) (k : ℕ) (e : Entry) (h : History) (is : List Item) → WaitsThrough c k e h is → has (history.entryWaits k e) (h .entries) ≡ true
 through-now c k e h [] t = t
 through-now c k e h (x ∷ is) t = t .0
 
@@ -98,7 +98,7 @@ few c k i e q s h (y ∷ es) v r a p t n =
     let s′ = step s y in
     let h′ = add c h (itemOf s y) in
     let v′ = inv-step s y v in
-    let r′ = rel-step c s h y v r in
+    let r′ = rel-step c s h y v a r in
     let m = or-false (isUpdateOf k e (itemOf s y)) (has (isUpdateOf k e) (items s′ es)) n in
     let x = waiting-row (s .rows) (h .entries) (r .rows) k e (t .0) in
     let z : x .0 ≡ i = v .rows .once e (x .0) i (x .1) p in

@@ -2,10 +2,10 @@
 -- Assumes nothing.
 use Prim.Native.Nat.{ℕ, _≤_}
 use mathlib.Core.Path.{_≡_, refl, _∙_}
-use mathlib.Core.Bool.{Bool, true, false, not, _&&_, false≢true}
+use mathlib.Core.Bool.{Bool, true, false, false≢true}
 use mathlib.Core.List.{List, [], _∷_}
 use lib.Dec.{ltb, leb}
-use lib.Signed.{≤ℤ-refl}
+use lib.Signed.{_≤ℤ_, ≤ℤ-refl}
 use lib.ListN.{length, length-map, length-replicate, List·getD-map}
 use borrow.Author.Tests.{ltb-true, leb-true}
 use Rattle.laws.proofs.Bools.{and-true, pick-of}
@@ -14,24 +14,26 @@ use Rattle.protocol.specs.Sizes.{idLength, keyMost, payloadMost}
 use Rattle.protocol.specs.Messages.{Message, Body, ca, csuRequest, csuReply, csus, hello}
 use Rattle.protocol.specs.Reading.{Reading, refused, malformed, message, readPacket}
 use Rattle.rules.specs.Server.{slotsMost, rowsMost, Settings, settingsCode, Entry, Row, free, used, holds, waitsFor, rowAt, freshSlot, Server, slotAt, fresh}
-use Rattle.rules.specs.Rows.{isPurged, anySlot, sweptRow, swept}
+use Rattle.rules.specs.Rows.{toFree, sweptRow, swept}
 use Rattle.rules.specs.Packets.{rowsOn}
-use Rattle.rules.specs.Refusals.{unusable, keyGood, payloadGood, ownEntry}
-use Rattle.rules.specs.Events.{Event, addPeer, linkUp, linkDown, packet, poll, set, withdraw, purge, codeOf, counts, placeOf, liveIn, slotsAfter, readRows, rowsChanged, cleared, acted, serverIf, step, run}
-use Rattle.rules.specs.Demand3.{NotLess}
+use Rattle.rules.specs.Refusals.{unusable, ownKeyGood, ownPayloadGood, ownEntry}
+use Rattle.rules.specs.Events.{Event, addPeer, linkUp, linkDown, packet, poll, set, withdraw, purge, codeOf, counts, placeOf, liveIn, slotsAfter, readRows, rowsChanged, acted, serverIf, step, run}
+use Rattle.rules.specs.Demand3.{rowNumber}
 use Rattle.rules.proofs.Relation.{SizedEntry, Sized, RowsInv, Inv}
 use Rattle.rules.proofs.RowGrows.{Keep, Grows, grows-refl, grows-trans}
 use Rattle.rules.proofs.RowsKeep.{grows-updated, grows-all-replied, grows-set, grows-withdraw, grows-purge, read-sized}
 use Rattle.rules.proofs.SlotsKeep.{slots-length, slots-peered, grows-cleared}
+use Rattle.rules.proofs.Ends.{swept-freed, changedRows, rowsAt, acted-rows}
+use Rattle.rules.proofs.Others.{slots-acted}
 use Rattle.rules.proofs.CodeTold.{own-told, set-told, message-told, past-live}
 
 -- ---- what is good has its sizes
-own-sized : (s : Settings) (key : List ℕ) → length (s .id) ≡ idLength → keyGood key ≡ true → SizedEntry (ownEntry s key)
+own-sized : (s : Settings) (key : List ℕ) → length (s .id) ≡ idLength → ownKeyGood key ≡ true → SizedEntry (ownEntry s key)
 own-sized s key h g =
     let f = and-true (ltb 0 (length key)) (leb (length key) keyMost) g in
     record { some-key = ltb-true 0 (length key) (f .0); key-fits = leb-true (length key) keyMost (f .1); originator = h }
 
-payload-sized : (p : List ℕ) → payloadGood p ≡ true → length p ≤ payloadMost
+payload-sized : (p : List ℕ) → ownPayloadGood p ≡ true → length p ≤ payloadMost
 payload-sized p g = leb-true (length p) payloadMost (and-true (ltb 0 (length p)) (leb (length p) payloadMost) g .1)
 
 -- ---- the rows that an event changes
@@ -72,8 +74,7 @@ pub data Swept (r : Row) : Row → Type 0 where
   freed : Swept r free
 
 swept-row : (r : Row) → Swept r (sweptRow r)
-swept-row free = stays
-swept-row (used e v m) = pick-of (Swept (used e v m)) (isPurged (v .number) && not (anySlot m)) free (used e v m) freed stays
+swept-row r = pick-of (Swept r) (toFree r) free r freed stays
 
 pub swept-at : (rows : List Row) (i : ℕ) → Swept (rowAt rows i) (rowAt (swept rows) i)
 swept-at rows i = rw (List·getD-map sweptRow rows i free) (swept-row (rowAt rows i))
@@ -99,42 +100,34 @@ rows-swept live rows v =
       sized = λ i. swept-sized _ _ (swept-at rows i) (v .sized i);
     }
 
-not-less : (a b c : Row) → Keep a b → Swept b c → NotLess a c
-not-less free b c k s = tt
-not-less (used e v m) free c k s = absurd k
-not-less (used e v m) (used f w n) c k stays = λ q. k .1
-not-less (used e v m) (used f w n) c k freed = tt
-
-not-less-refl : (r : Row) → NotLess r r
-not-less-refl free = tt
-not-less-refl (used e v m) = λ q. ≤ℤ-refl (v .number .0)
+-- a row kept, and then swept
+fallen-not : (e : Entry) (a b c : Row) → Keep a b → Swept b c → holds e a ≡ true → holds e c ≡ true → rowNumber a ≤ℤ rowNumber c
+fallen-not e free b c k s p q = absurd (false≢true p)
+fallen-not e (used f v m) free c k s p q = absurd k
+fallen-not e (used f v m) (used g w n) c k stays p q = k .1
+fallen-not e (used f v m) (used g w n) c k freed p q = absurd (false≢true q)
 
 -- ---- the server
 module _ (s : Server) (e : Event) (v : Inv s) (c : counts e (codeOf s e) ≡ true) where
-  abbrev changed : List Row
-  changed = rowsChanged e (s .settings) (liveIn (s .slots)) (s .rows)
-
-  abbrev before-sweep : List Row
-  before-sweep = cleared (placeOf e) (s .slots) (slotsAfter (placeOf e) e s) changed
-
-  grows-event : Grows (liveIn (slotsAfter (placeOf e) e s)) (s .rows) before-sweep
+  pub grows-event : Grows (liveIn (slotsAfter (placeOf e) e s)) (s .rows) (rowsAt s e)
   grows-event =
       let g = grows-changed s e v c in
-      grows-trans (s .rows) changed before-sweep g (grows-cleared (placeOf e) e s changed (g .inv))
+      grows-trans (s .rows) (changedRows s e) (rowsAt s e) g (grows-cleared (placeOf e) e s (changedRows s e) (g .inv))
 
   inv-acted : Inv (acted s e)
-  unfolding acted
   inv-acted =
       record {
-        slots = slots-length (placeOf e) e s ∙ v .slots;
-        own = v .own;
-        peers = slots-peered (placeOf e) e s c (v .peers);
-        rows = rows-swept (liveIn (slotsAfter (placeOf e) e s)) before-sweep (grows-event .inv);
+        slots = rw (slots-acted s e) (slots-length (placeOf e) e s ∙ v .slots);
+        own = unfold acted in v .own;
+        peers = unfold acted in slots-peered s (v .peers) e c;
+        rows = rw (slots-acted s e, acted-rows s e v c) (rows-swept (liveIn (slotsAfter (placeOf e) e s)) (rowsAt s e) (grows-event .inv));
+        freed = rw (acted-rows s e v c) (swept-freed (rowsAt s e));
       }
 
-  falls-acted : (i : ℕ) → NotLess (rowAt (s .rows) i) (rowAt (acted s e .rows) i)
-  unfolding acted
-  falls-acted i = not-less (rowAt (s .rows) i) (rowAt before-sweep i) (rowAt (swept before-sweep) i) (grows-event .keep i) (swept-at before-sweep i)
+  falls-acted : (x : Entry) (i : ℕ) → holds x (rowAt (s .rows) i) ≡ true → holds x (rowAt (acted s e .rows) i) ≡ true
+      → rowNumber (rowAt (s .rows) i) ≤ℤ rowNumber (rowAt (acted s e .rows) i)
+  falls-acted x i p = rw (acted-rows s e v c)
+      (λ q. fallen-not x (rowAt (s .rows) i) (rowAt (rowsAt s e) i) (rowAt (swept (rowsAt s e)) i) (grows-event .keep i) (swept-at (rowsAt s e) i) p q)
 
 inv-by : (s : Server) (e : Event) → Inv s → (b : Bool) → counts e (codeOf s e) ≡ b → Inv (serverIf b s e)
 inv-by s e v true c = inv-acted s e v c
@@ -148,13 +141,16 @@ pub inv-run : (s : Server) (es : List Event) → Inv s → Inv (run s es)
 inv-run s [] v = v
 inv-run s (e ∷ es) v = inv-run (step s e) es (inv-step s e v)
 
-falls-by : (s : Server) (e : Event) → Inv s → (i : ℕ) (b : Bool) → counts e (codeOf s e) ≡ b → NotLess (rowAt (s .rows) i) (rowAt (serverIf b s e .rows) i)
-falls-by s e v i true c = falls-acted s e v c i
-falls-by s e v i false c = not-less-refl (rowAt (s .rows) i)
+falls-by : (s : Server) (e : Event) → Inv s → (x : Entry) (i : ℕ) (b : Bool) → counts e (codeOf s e) ≡ b → holds x (rowAt (s .rows) i) ≡ true
+    → holds x (rowAt (serverIf b s e .rows) i) ≡ true → rowNumber (rowAt (s .rows) i) ≤ℤ rowNumber (rowAt (serverIf b s e .rows) i)
+falls-by s e v x i true c p q = falls-acted s e v c x i p q
+falls-by s e v x i false c p q = ≤ℤ-refl (rowNumber (rowAt (s .rows) i))
 
-pub never-falls : (s : Server) → Inv s → (e : Event) (i : ℕ) → NotLess (rowAt (s .rows) i) (rowAt (step s e .rows) i)
+-- an entry that is in its row before and after an event has a number that did not fall
+pub falls-not : (s : Server) → Inv s → (e : Event) (x : Entry) (i : ℕ) → holds x (rowAt (s .rows) i) ≡ true → holds x (rowAt (step s e .rows) i) ≡ true
+    → rowNumber (rowAt (s .rows) i) ≤ℤ rowNumber (rowAt (step s e .rows) i)
 unfolding step
-never-falls s v e i = falls-by s e v i (counts e (codeOf s e)) refl
+falls-not s v e x i p q = falls-by s e v x i (counts e (codeOf s e)) refl p q
 
 -- ---- a fresh server
 pub inv-fresh : (c : Settings) → settingsCode c ≡ 0 → Inv (fresh c)
@@ -162,11 +158,12 @@ inv-fresh c h =
     record {
       slots = length-replicate slotsMost freshSlot;
       own = own-told c h;
-      peers = λ k u. absurd (false≢true (rw (all-alike freshSlot slotsMost k) at u));
+      peers = λ k. rw (all-alike freshSlot slotsMost k) (record { id = λ u. absurd (false≢true u); none = λ _. refl });
       rows = record {
         size = length-replicate rowsMost free;
         once = λ e i j p q. absurd (false≢true (rw (all-alike free rowsMost i) at p));
         alive = λ i k w. absurd (false≢true (rw (all-alike free rowsMost i) at w));
         sized = λ i. rw (all-alike free rowsMost i) tt;
       };
+      freed = λ i. rw (all-alike free rowsMost i) refl;
     }

@@ -2,11 +2,12 @@
 -- Assumes nothing.
 use Prim.Native.Nat.{ℕ, _≤_, _<_}
 use mathlib.Core.Path.{_≡_}
-use mathlib.Core.Bool.{Bool, true}
+use mathlib.Core.Bool.{Bool, true, false, not}
 use mathlib.Core.List.{List, map}
 use lib.ListN.{length}
 use mir.Syntax.{w32}
 use mir.Val.{SFits}
+use Rattle.laws.specs.Lists.{isEmpty}
 use Rattle.laws.specs.Tables.{without, Perm}
 use Rattle.protocol.specs.declared.Alignment.{Alignment}
 use Rattle.protocol.specs.declared.Alignment.the-variants.{Down, Negotiate, Summarize, Update, Aligned}
@@ -14,7 +15,9 @@ use Rattle.protocol.specs.declared.Link.{Link}
 use Rattle.protocol.specs.Sizes.{idLength, keyMost, payloadMost}
 use Rattle.rules.specs.Server.{slotsMost, rowsMost, Settings, Entry, Value, Row, free, used, isFree, waitsFor, rowAt, Slot, slotAt, Server}
 use Rattle.rules.specs.Links.{withAlignment}
+use Rattle.rules.specs.Rows.{toFree}
 use Rattle.rules.specs.Events.{liveIn}
+use Rattle.rules.specs.SlotHistory.{SlotHistory}
 use Rattle.rules.specs.History.{Known, History}
 use Rattle.rules.specs.Demand3.{rowOf, Once}
 
@@ -43,11 +46,18 @@ pub record RowsInv (live : ℕ → Bool) (rows : List Row) : Type 0 where
   pub alive : (i : ℕ) → Alive live (rowAt rows i)
   pub sized : (i : ℕ) → Sized (rowAt rows i)
 
+-- a peer has an ID; a slot without one has never been in a link
+pub record Peered (x : Slot) : Type 0 where
+  pub id : x .used ≡ true → length (x .peer) ≡ idLength
+  pub none : x .used ≡ false → x .link .alignment ≡ Down
+
 pub record Inv (s : Server) : Type 0 where
   pub slots : length (s .slots) ≡ slotsMost
   pub own : length (s .settings .id) ≡ idLength
-  pub peers : (k : ℕ) → slotAt s k .used ≡ true → length (slotAt s k .peer) ≡ idLength
+  pub peers : (k : ℕ) → Peered (slotAt s k)
   pub rows : RowsInv (liveIn (s .slots)) (s .rows)
+  -- no row is purged and waits for nobody
+  pub freed : (i : ℕ) → toFree (rowAt (s .rows) i) ≡ false
 
 -- the history does not tell Aligned from Update
 abbrev pub pastAs : Alignment → Alignment
@@ -57,11 +67,12 @@ pastAs (Summarize r) = Summarize r
 pastAs Update = Update
 pastAs Aligned = Update
 
-abbrev pub forget : Link → Link
-forget l = withAlignment (pastAs (l .alignment)) l
+abbrev pub pastLink : Link → Link
+pastLink l = withAlignment (pastAs (l .alignment)) l
 
-abbrev pub linkOf : Slot → Link
-linkOf x = forget (x .link)
+-- a slot as the history sees it
+abbrev pub seenOf : Slot → SlotHistory
+seenOf x = record { link = pastLink (x .link); kept = not (isEmpty (x .kept)); sent = x .timers .ca }
 
 -- the used rows are the history's entries
 abbrev pub Sim : List Row → List Known → Type 0
@@ -69,5 +80,5 @@ Sim rows es = Perm (without isFree rows) (map rowOf es)
 
 pub record Rel (c : Settings) (s : Server) (h : History) : Type 0 where
   pub settings : s .settings ≡ c
-  pub links : map linkOf (s .slots) ≡ h .links
+  pub slots : map seenOf (s .slots) ≡ h .slots
   pub rows : Sim (s .rows) (h .entries)

@@ -23,7 +23,7 @@ use Rattle.protocol.proofs.Lengths.{layout-size}
 use Rattle.rules.specs.Server.{Settings, Slot}
 use Rattle.rules.specs.Slots.{toPeer}
 use Rattle.rules.specs.Poll.{helloOf}
-use Rattle.rules.specs.Demand3.{isRequest, requestIn}
+use Rattle.rules.specs.Demand3.{isRequestType, requestRecords}
 
 -- what a record needs to be read back by position
 pub record Readable (r : CsaRecord) : Type 0 where
@@ -38,7 +38,7 @@ records-back p (r ∷ rs) at e h good =
     let s : Shown idLength p at r (recordsOctets [] rs) = shown idLength p at 0 r _ e h (omega arith) (good .0 .originator-size) in
     λ i. record-read idLength p at r _ s (good .0 .number-fits) i ∷ records-back p rs (at + field2 p (at + 2)) (s .rest-at) (s .room) (good .1) i
 
-pub is-request : (c : Settings) (x : Slot) (rs : List CsaRecord) → isRequest (packetOf (toPeer c x (csuRequest rs))) ≡ true
+pub is-request : (c : Settings) (x : Slot) (rs : List CsaRecord) → isRequestType (packetOf (toPeer c x (csuRequest rs))) ≡ true
 unfolding packetOf layout
 is-request c x rs = refl
 
@@ -63,25 +63,25 @@ layout-records sum protocol group sender receiver rs own peer good =
     counted-back (layout zeros sum m) m rs own peer (unfold layout mandatory in refl) (omega arith) refl good
 
 pub request-back : (c : Settings) (x : Slot) (rs : List CsaRecord) → length (c .id) ≡ idLength → length (x .peer) ≡ idLength → All Readable rs
-    → requestIn (packetOf (toPeer c x (csuRequest rs))) ≡ rs
+    → requestRecords (packetOf (toPeer c x (csuRequest rs))) ≡ rs
 request-back c x rs own peer good =
     rw (is-request c x rs) (unfold packetOf in layout-records (checksumOf (layout zeros 0 (toPeer c x (csuRequest rs)))) (c .protocol) (c .group) (c .id) (x .peer) rs own peer good)
 
-pub not-hello : (c : Settings) (x : Slot) → isRequest (packetOf (helloOf c x)) ≡ false
+pub not-hello : (c : Settings) (x : Slot) → isRequestType (packetOf (helloOf c x)) ≡ false
 unfolding packetOf layout
 not-hello c x = refl
 
-pub not-ca : (c : Settings) (x : Slot) (n : CaNumber) (f : CaFlags) (rs : List CsaRecord) → isRequest (packetOf (toPeer c x (ca n f rs))) ≡ false
+pub not-ca : (c : Settings) (x : Slot) (n : CaNumber) (f : CaFlags) (rs : List CsaRecord) → isRequestType (packetOf (toPeer c x (ca n f rs))) ≡ false
 unfolding packetOf layout
 not-ca c x n f rs = refl
 
-pub not-csus : (c : Settings) (x : Slot) (rs : List CsaRecord) → isRequest (packetOf (toPeer c x (csus rs))) ≡ false
+pub not-csus : (c : Settings) (x : Slot) (rs : List CsaRecord) → isRequestType (packetOf (toPeer c x (csus rs))) ≡ false
 unfolding packetOf layout
 not-csus c x rs = refl
 
-pub not-reply : (c : Settings) (x : Slot) (rs : List CsaRecord) → isRequest (packetOf (toPeer c x (csuReply rs))) ≡ false
+pub not-reply : (c : Settings) (x : Slot) (rs : List CsaRecord) → isRequestType (packetOf (toPeer c x (csuReply rs))) ≡ false
 unfolding packetOf layout
 not-reply c x rs = refl
 
-pub not-none : isRequest [] ≡ false
+pub not-none : isRequestType [] ≡ false
 not-none = refl

@@ -4,24 +4,23 @@ use Prim.Native.Nat.{ℕ}
 use mathlib.Core.Path.{_≡_, refl}
 use mathlib.Core.Bool.{true, false}
 use mathlib.Core.List.{List, [], map}
-use Rattle.laws.specs.Tables.{without}
-use Rattle.protocol.specs.declared.Link.{Link}
 use Rattle.protocol.specs.Sizes.{idLength}
 use Rattle.protocol.specs.Messages.{Message, Body, ca, csuRequest, csuReply, csus, hello}
 use Rattle.protocol.specs.Reading.{Reading, refused, malformed, message, readPacket}
 use Rattle.rules.specs.Server.{Settings, Row, Slot, Server, slotAt}
 use Rattle.rules.specs.Links.{enters}
-use Rattle.rules.specs.Rows.{swept}
 use Rattle.rules.specs.Packets.{rowsOn}
 use Rattle.rules.specs.Refusals.{ownEntry, unusable}
 use Rattle.rules.specs.Events.{Event, addPeer, linkUp, linkDown, packet, poll, set, withdraw, purge, codeOf, counts, Place, inSlot, nowhere, placeOf, alignmentAt, liveIn, slotsAfter, readRows, rowsChanged, cleared, acted, writtenAt, itemOf}
-use Rattle.rules.specs.History.{Known, isDone, linksAfter, liveLinks, History, bodyEntries, readEntries, entriesChanged, entriesLeft, noteItem}
-use Rattle.rules.proofs.Relation.{Inv, linkOf, Sim}
+use Rattle.rules.specs.SlotHistory.{SlotHistory, slotHistoriesAfter, liveStates}
+use Rattle.rules.specs.History.{Known, History, bodyEntries, readEntries, entriesChanged, entriesLeft, entriesAt, noteItem}
+use Rattle.rules.proofs.Relation.{Inv, seenOf, Sim}
 use Rattle.rules.proofs.RowsKeep.{read-sized}
 use Rattle.rules.proofs.RowSim.{sim-left-if, sim-swept}
 use Rattle.rules.proofs.RowChanges.{sim-updated, sim-answered, sim-set, sim-withdraw, sim-purge}
+use Rattle.rules.proofs.Ends.{rowsAt, acted-rows}
 use Rattle.rules.proofs.CodeTold.{set-told, withdraw-told, purge-told, message-told, past-live}
-use Rattle.rules.proofs.Forget.{live-links, enters-links}
+use Rattle.rules.proofs.PastLaws.{live-states, enters-states}
 
 -- ---- what an event changes
 module _ (s : Server) (es : List Known) (v : Inv s) (t : Sim (s .rows) es) where
@@ -59,28 +58,25 @@ module _ (s : Server) (es : List Known) (v : Inv s) (t : Sim (s .rows) es) where
 
 -- ---- the end of an event
 sim-cleared : (x : Place) (before after : List Slot) (rows : List Row) (es : List Known) → Sim rows es
-    → Sim (cleared x before after rows) (entriesLeft x (map linkOf before) (map linkOf after) es)
+    → Sim (cleared x before after rows) (entriesLeft x (map seenOf before) (map seenOf after) es)
 sim-cleared (inSlot k) before after rows es s =
-    rw (enters-links before after k) (sim-left-if (enters (alignmentAt before k) (alignmentAt after k)) k rows es s)
+    rw (enters-states before after k) (sim-left-if (enters (alignmentAt before k) (alignmentAt after k)) k rows es s)
 sim-cleared nowhere before after rows es s = s
 
-pub sim-ended : (x : Place) (before after : List Slot) (rows : List Row) (es : List Known) → Sim rows es
-    → Sim (swept (cleared x before after rows)) (without isDone (entriesLeft x (map linkOf before) (map linkOf after) es))
-sim-ended x before after rows es s =
-    sim-swept (cleared x before after rows) (entriesLeft x (map linkOf before) (map linkOf after) es) (sim-cleared x before after rows es s)
-
--- ---- the rows after an event that counts
-act-by : (s : Server) (e : Event) (c : Settings) (before after : List Link) (es : List Known) → Inv s → s .settings ≡ c
-    → map linkOf (s .slots) ≡ before → map linkOf (slotsAfter (placeOf e) e s) ≡ after → Sim (s .rows) es → counts e (codeOf s e) ≡ true
-    → Sim (acted s e .rows) (without isDone (entriesLeft (placeOf e) before after (entriesChanged e c (liveLinks before) es)))
-unfolding acted
-act-by s e c before after es v ec eb ea t n =
-    rw (← ec, ← eb, ← ea, live-links (s .slots))
-    (sim-ended (placeOf e) (s .slots) (slotsAfter (placeOf e) e s) (rowsChanged e (s .settings) (liveIn (s .slots)) (s .rows))
+-- ---- an event that counts, up to its end and with its end
+end-by : (s : Server) (e : Event) (c : Settings) (before after : List SlotHistory) (es : List Known) → Inv s → s .settings ≡ c
+    → map seenOf (s .slots) ≡ before → map seenOf (slotsAfter (placeOf e) e s) ≡ after → Sim (s .rows) es → counts e (codeOf s e) ≡ true
+    → Sim (rowsAt s e) (entriesLeft (placeOf e) before after (entriesChanged e c (liveStates before) es))
+end-by s e c before after es v ec eb ea t n =
+    rw (← ec, ← eb, ← ea, live-states (s .slots))
+    (sim-cleared (placeOf e) (s .slots) (slotsAfter (placeOf e) e s) (rowsChanged e (s .settings) (liveIn (s .slots)) (s .rows))
     (entriesChanged e (s .settings) (liveIn (s .slots)) es) (sim-changed s es v t e n))
 
-pub sim-act : (s : Server) (h : History) (c : Settings) (e : Event) → Inv s → s .settings ≡ c → map linkOf (s .slots) ≡ h .links
-    → Sim (s .rows) (h .entries) → counts e (codeOf s e) ≡ true
-    → map linkOf (slotsAfter (placeOf e) e s) ≡ linksAfter (placeOf e) e c (writtenAt s e) (h .links)
-    → Sim (acted s e .rows) (noteItem c h (itemOf s e) .entries)
-sim-act s h c e v ec eb t n ea = act-by s e c (h .links) (linksAfter (placeOf e) e c (writtenAt s e) (h .links)) (h .entries) v ec eb ea t n
+module _ (s : Server) (h : History) (c : Settings) (e : Event) (v : Inv s) (ec : s .settings ≡ c) (eb : map seenOf (s .slots) ≡ h .slots)
+    (t : Sim (s .rows) (h .entries)) (n : counts e (codeOf s e) ≡ true)
+    (ea : map seenOf (slotsAfter (placeOf e) e s) ≡ slotHistoriesAfter (placeOf e) e c (writtenAt s e) (h .slots)) where
+  pub sim-end : Sim (rowsAt s e) (entriesAt c h (itemOf s e))
+  sim-end = end-by s e c (h .slots) (slotHistoriesAfter (placeOf e) e c (writtenAt s e) (h .slots)) (h .entries) v ec eb ea t n
+
+  pub sim-act : Sim (acted s e .rows) (noteItem c h (itemOf s e) .entries)
+  sim-act = rw (acted-rows s e v n) (sim-swept (rowsAt s e) (entriesAt c h (itemOf s e)) sim-end)

@@ -8,83 +8,77 @@ use Rattle.laws.specs.Choice.{pick}
 use Rattle.laws.specs.Lists.{All}
 use Rattle.laws.specs.Tables.{has, change, update}
 use Rattle.laws.proofs.Tables.{full}
-use Rattle.laws.proofs.Bools.{and-true, and-tells}
-use Rattle.laws.proofs.Cells.{one-found, one-tells}
+use Rattle.laws.proofs.Cells.{one-found}
 use Rattle.protocol.specs.declared.CsaNumber.{CsaNumber}
 use Rattle.protocol.specs.Numbers.{newer}
 use Rattle.protocol.specs.Messages.{CsaRecord}
-use Rattle.rules.specs.Server.{Entry, sameEntry, Row, free, used, isFree, holds, rowAt, Request}
-use Rattle.rules.specs.Rows.{isPurged, unmarked, filled}
+use Rattle.rules.specs.Server.{Entry, Row, free, used, isFree, isUsed, holds, Request}
+use Rattle.rules.specs.Rows.{entryRow, isPurged, unmarked, filled}
 use Rattle.rules.specs.Requests.{entryOf}
-use Rattle.rules.specs.Updates.{changedRow, setRows, purgedRow, purgeRows, null, purgeAbsent, full as noRow, stored, equal, older, outOfDate, ahead, updateRule, rowFor, renewed, owed, rowsBy, Updated, byRule, allUpdated, replied, allReplied}
+use Rattle.rules.specs.Updates.{changedRow, setRows, purgedRow, purgeRows, null as noRecord, purgeAbsent, full as noRow, stored, equal, older, ruleAt, updateRule, rowFor, renewed, waitsAgain, rowsBy, Updated, byRule, allUpdated, replied, allReplied}
 use Rattle.rules.specs.Packets.{updatedBy}
-use Rattle.rules.specs.Refusals.{firstRow, rowSpent, rowPurged}
+use Rattle.rules.specs.Refusals.{rowSpent, rowPurged}
 use Rattle.rules.specs.History.{Known, nowHeld, isOf, admit, opened, arrived, noted, allNoted, answered, allAnswered, changed, created, purging}
 use Rattle.rules.specs.Demand3.{rowOf}
 use Rattle.rules.proofs.Relation.{Alive, RowsInv, Sim}
 use Rattle.rules.proofs.RowsKeep.{SizedRecord, rows-by, rows-replied}
 use Rattle.rules.proofs.RowSim.{answered-of, opened-of, created-of, changed-of, purging-of, merged, arrived-of, sim-holds, sim-change, sim-admit, sim-pick}
-use Rattle.rules.proofs.Entries.{Alike, alike-unmarked, alike-owed, alike-replied, alike-renewed, alike-changed, alike-purged}
-use Rattle.rules.proofs.RowGrows.{stale-holds}
+use Rattle.rules.proofs.Entries.{row-there, Alike, alike-unmarked, alike-waitsAgain, alike-replied, alike-renewed, alike-changed, alike-purged}
+use Rattle.rules.proofs.RowGrows.{of-entry}
 
 -- ---- the records of a CSU Request
-ahead-holds : (e : Entry) (n : CsaNumber) (x : Row) → ahead e n x ≡ true → holds e x ≡ true
-ahead-holds e n free h = h
-ahead-holds e n (used f v m) h = and-true (sameEntry f e) (newer (v .number) n) h .0
+-- how a number compares with the row's
+abbrev Compares : CsaNumber → Bool → Bool → Row → Type 0
+Compares n newer? older? free = Unit {0}
+Compares n newer? older? (used e v m) = (newer n (v .number) ≡ newer?) × (newer (v .number) n ≡ older?)
 
 module _ (live : ℕ → Bool) (k : ℕ) (r : CsaRecord) (rows : List Row) (es : List Known) (v : RowsInv live rows) (s : Sim rows es) where
-  -- what is known of a row: its marks, and the two tests if it holds the entry
+  -- what is known of a row: its marks, and how the numbers compare if it holds the entry
   abbrev Told : Bool → Bool → Row → Type 0
-  Told a b x =
-      Alive live x
-      × ((holds (entryOf r) x ≡ true → outOfDate (entryOf r) (r .number) x ≡ a)
-      × (holds (entryOf r) x ≡ true → ahead (entryOf r) (r .number) x ≡ b))
+  Told a b x = Alive live x × (holds (entryOf r) x ≡ true → Compares (r .number) a b x)
 
-  told : (a b : Bool) → has (outOfDate (entryOf r) (r .number)) rows ≡ a → has (ahead (entryOf r) (r .number)) rows ≡ b
-      → (i : ℕ) → Told a b (rowAt rows i)
-  told a b p q i = (
-    v .alive i,
-    (
-      λ h. one-tells free (holds (entryOf r)) (outOfDate (entryOf r) (r .number)) (stale-holds (entryOf r) (r .number)) refl rows (v .once (entryOf r)) i h ∙ p,
-      λ h. one-tells free (holds (entryOf r)) (ahead (entryOf r) (r .number)) (ahead-holds (entryOf r) (r .number)) refl rows (v .once (entryOf r)) i h ∙ q,
-    ),
-  )
-
-  -- the row that holds the entry is renewed, owed or unmarked as the tests say
+  -- the row that holds the entry is renewed, marked again or unmarked as the numbers compare
   sim-arrived : (f : Row → Row) → ((x : Row) → Alike x (f x)) → (a b : Bool) → ((x : Row) → f x ≡ merged live k r a b x)
-      → has (outOfDate (entryOf r) (r .number)) rows ≡ a → has (ahead (entryOf r) (r .number)) rows ≡ b
+      → Compares (r .number) a b (entryRow (entryOf r) rows)
       → Sim (change (holds (entryOf r)) f rows) (update (isOf (entryOf r)) (arrived live k r) es)
-  sim-arrived f keeps a b is p q = sim-change (entryOf r) (Told a b) f (arrived live k r) keeps of rows es (told a b p q) (v .once) s where
-    of : (x : Known) → Told a b (rowOf x) → isOf (entryOf r) x ≡ true → f (rowOf x) ≡ rowOf (arrived live k r x)
-    of x t h =
-        let p : newer (r .number) (nowHeld x .number) ≡ a = and-tells (isOf (entryOf r) x) (newer (r .number) (nowHeld x .number)) a h (t .1 .0 h) in
-        let q : newer (nowHeld x .number) (r .number) ≡ b = and-tells (isOf (entryOf r) x) (newer (nowHeld x .number) (r .number)) b h (t .1 .1 h) in
-        is (rowOf x)
-        ∙ ap (λ c. merged live k r c b (rowOf x)) (sym p)
-        ∙ ap (λ c. merged live k r (newer (r .number) (nowHeld x .number)) c (rowOf x)) (sym q)
-        ∙ arrived-of live k r x (t .0)
+  sim-arrived f keeps a b is c =
+      sim-change (entryOf r) (Told a b) f (arrived live k r) keeps of rows es
+      (λ i. (v .alive i, λ h. of-entry live rows v (Compares (r .number) a b) (entryOf r) c i h)) (v .once) s where
+        of : (x : Known) → Told a b (rowOf x) → isOf (entryOf r) x ≡ true → f (rowOf x) ≡ rowOf (arrived live k r x)
+        of x t h =
+            is (rowOf x)
+            ∙ ap (λ c. merged live k r c b (rowOf x)) (sym (t .1 h .0))
+            ∙ ap (λ c. merged live k r (newer (r .number) (nowHeld x .number)) c (rowOf x)) (sym (t .1 h .1))
+            ∙ arrived-of live k r x (t .0)
 
   sim-opened : Sim (filled (rowFor live k r) rows) (admit (opened live k r) es)
   sim-opened = rw (opened-of live k r) (sim-admit (opened live k r) rows es (v .size) s)
 
-  noted-by : (n h o a p f : Bool) → has (holds (entryOf r)) rows ≡ h → has (outOfDate (entryOf r) (r .number)) rows ≡ o
-      → has (ahead (entryOf r) (r .number)) rows ≡ a → has isFree rows ≡ f
-      → Sim (rowsBy (pick n null (pick h (pick o stored (pick a older equal)) (pick p purgeAbsent (pick f stored noRow)))) live k r rows)
-      (pick n es (pick h (update (isOf (entryOf r)) (arrived live k r) es) (pick p es (admit (opened live k r) es))))
-  noted-by true h o a p f eh eo ea ef = s
-  noted-by false true true a p f eh eo ea ef = rw eh (sim-arrived (renewed live k r) (alike-renewed live k r) true a (λ x. refl) eo ea)
-  noted-by false true false true p f eh eo ea ef = sim-arrived (owed k) (alike-owed k) false true (λ x. refl) eo ea
-  noted-by false true false false p f eh eo ea ef = sim-arrived (unmarked k) (alike-unmarked k) false false (λ x. refl) eo ea
-  noted-by false false o a true f eh eo ea ef = s
-  noted-by false false o a false true eh eo ea ef = rw eh sim-opened
-  noted-by false false o a false false eh eo ea ef = rw (full isFree (λ _. rowFor live k r) rows ef) at sim-opened
+  absent-by : (purged room : Bool) → has (holds (entryOf r)) rows ≡ false → has isFree rows ≡ room
+      → Sim (rowsBy (pick purged purgeAbsent (pick room stored noRow)) live k r rows) (pick purged es (admit (opened live k r) es))
+  absent-by true room e f = s
+  absent-by false true e f = rw e sim-opened
+  absent-by false false e f = rw (full isFree (λ _. rowFor live k r) rows f) at sim-opened
+
+  held-by : (a b : Bool) → has (holds (entryOf r)) rows ≡ true → Compares (r .number) a b (entryRow (entryOf r) rows)
+      → Sim (rowsBy (pick a stored (pick b older equal)) live k r rows) (update (isOf (entryOf r)) (arrived live k r) es)
+  held-by true b e c = rw e (sim-arrived (renewed live k r) (alike-renewed live k r) true b (λ x. refl) c)
+  held-by false true e c = sim-arrived (waitsAgain k) (alike-waitsAgain k) false true (λ x. refl) c
+  held-by false false e c = sim-arrived (unmarked k) (alike-unmarked k) false false (λ x. refl) c
+
+  noted-by : (null : Bool) (x : Row) → entryRow (entryOf r) rows ≡ x
+      → Sim (rowsBy (pick null noRecord (ruleAt (r .number) (has isFree rows) x)) live k r rows)
+      (pick null es (pick (isUsed x) (update (isOf (entryOf r)) (arrived live k r) es) (pick (isPurged (r .number)) es (admit (opened live k r) es))))
+  noted-by true x q = s
+  noted-by false free q = absent-by (isPurged (r .number)) (has isFree rows) (row-there (entryOf r) rows ∙ ap isUsed q) refl
+  noted-by false (used f w m) q =
+      held-by (newer (r .number) (w .number)) (newer (w .number) (r .number)) (row-there (entryOf r) rows ∙ ap isUsed q) (rw q (refl, refl))
 
   -- one record
   sim-noted : Sim (rowsBy (updateRule r rows) live k r rows) (noted live k r es)
   sim-noted =
-      rw (← (sim-holds (entryOf r) rows es s))
-      (noted-by (r .null) (has (holds (entryOf r)) rows) (has (outOfDate (entryOf r) (r .number)) rows) (has (ahead (entryOf r) (r .number)) rows)
-      (isPurged (r .number)) (has isFree rows) refl refl refl refl)
+      rw (← (sim-holds (entryOf r) rows es s), row-there (entryOf r) rows)
+      (noted-by (r .null) (entryRow (entryOf r) rows) refl)
 
 module _ (live : ℕ → Bool) (k : ℕ) where
   sim-all-noted : live k ≡ true → (rs : List CsaRecord) → All SizedRecord rs → (x : Updated) (es : List Known) → RowsInv live (x .rows)
@@ -118,22 +112,22 @@ sim-answered live k (r ∷ rs) rows es v s =
 module _ (live : ℕ → Bool) (e : Entry) (rows : List Row) (es : List Known) (v : RowsInv live rows) (s : Sim rows es) where
   -- a change of the row of e, where that row fails a test: the first row that holds e is the only one
   sim-own : (t : Row → Bool) (f : Row → Row) (g : Known → Known) → ((x : Row) → Alike x (f x))
-      → ((x : Known) → Alive live (rowOf x) → t (rowOf x) ≡ false → f (rowOf x) ≡ rowOf (g x)) → t (firstRow e rows) ≡ false
+      → ((x : Known) → Alive live (rowOf x) → t (rowOf x) ≡ false → f (rowOf x) ≡ rowOf (g x)) → t (entryRow e rows) ≡ false
       → Sim (change (holds e) f rows) (update (isOf e) g es)
   sim-own t f g keeps of n =
       sim-change e (λ x. Alive live x × (holds e x ≡ true → t x ≡ false)) f g keeps (λ x q h. of x (q .0) (q .1 h))
       rows es (λ i. (v .alive i, λ h. ap t (sym (one-found free (holds e) rows (v .once e) i h)) ∙ n)) (v .once) s
 
   -- a set of an entry that has a row, and a withdrawal
-  pub sim-withdraw : (p : List ℕ) → rowSpent (firstRow e rows) ≡ false → Sim (change (holds e) (changedRow live p) rows) (update (isOf e) (changed live p) es)
+  pub sim-withdraw : (p : List ℕ) → rowSpent (entryRow e rows) ≡ false → Sim (change (holds e) (changedRow live p) rows) (update (isOf e) (changed live p) es)
   sim-withdraw p n = sim-own rowSpent (changedRow live p) (changed live p) (alike-changed live p) (changed-of live p) n
 
-  pub sim-set : (p : List ℕ) → rowSpent (firstRow e rows) ≡ false
+  pub sim-set : (p : List ℕ) → rowSpent (entryRow e rows) ≡ false
       → Sim (setRows live e p rows) (pick (has (isOf e) es) (update (isOf e) (changed live p) es) (admit (created live e p) es))
   sim-set p n =
       rw (sim-holds e rows es s)
       (sim-pick (has (isOf e) es) _ _ _ _ (sim-withdraw p n)
       (rw (created-of live e p) (sim-admit (created live e p) rows es (v .size) s)))
 
-  pub sim-purge : rowPurged (firstRow e rows) ≡ false → Sim (purgeRows live e rows) (update (isOf e) (purging live) es)
+  pub sim-purge : rowPurged (entryRow e rows) ≡ false → Sim (purgeRows live e rows) (update (isOf e) (purging live) es)
   sim-purge n = sim-own rowPurged (purgedRow live) (purging live) (alike-purged live) (purging-of live) n

@@ -13,24 +13,23 @@ use borrow.Author.Tests.{eqb-true}
 use Rattle.laws.specs.Choice.{pick}
 use Rattle.laws.specs.Tables.{on, has, change}
 use Rattle.laws.proofs.Bools.{and-true, pick-of}
-use Rattle.laws.proofs.Cells.{has-false, Changed, nowhere, atCell, changed, length-change, each-change, one-tells}
+use Rattle.laws.proofs.Cells.{has-false, Changed, nowhere, atCell, changed, length-change, each-change, one-found}
 use Rattle.laws.proofs.Integers.{le-of-lt, ≤ℤ-trans, le-greatest}
 use Rattle.protocol.specs.declared.CsaNumber.{CsaNumber}
 use Rattle.protocol.specs.Sizes.{payloadMost}
 use Rattle.protocol.specs.Numbers.{newer}
 use Rattle.protocol.specs.Messages.{CsaRecord}
 use Rattle.rules.specs.Server.{Entry, sameEntry, Value, Row, free, used, isFree, holds, rowAt}
-use Rattle.rules.specs.Rows.{unmarked, spread, filled}
-use Rattle.rules.specs.Requests.{entryOf}
-use Rattle.rules.specs.Updates.{changedRow, purgedRow, outOfDate, valueOf, renewed, owed, replied}
+use Rattle.rules.specs.Rows.{entryRow, unmarked, spread, filled}
+use Rattle.rules.specs.Updates.{changedRow, purgedRow, valueOf, renewed, waitsAgain, replied}
 use Rattle.rules.proofs.Relation.{Alive, SizedValue, Sized, RowsInv}
 use Rattle.rules.proofs.CsaOrder.{stepped-good}
 use Rattle.rules.proofs.Entries.{entry-true}
 
--- a row that is out of date for an entry holds it
-pub stale-holds : (e : Entry) (n : CsaNumber) (x : Row) → outOfDate e n x ≡ true → holds e x ≡ true
-stale-holds e n free h = h
-stale-holds e n (used f v m) h = and-true (sameEntry f e) (newer n (v .number)) h .0
+-- the row's number is smaller
+abbrev pub Older : CsaNumber → Row → Type 0
+Older n free = Unit {0}
+Older n (used e v m) = newer n (v .number) ≡ true
 
 -- ---- one row before and after
 -- the entry is still there, and its number has not fallen
@@ -83,9 +82,9 @@ module _ (live : ℕ → Bool) where
   good-unmarked k free = good-refl free
   good-unmarked k (used e v m) = good-off k e v m
 
-  pub good-owed : (k : ℕ) → live k ≡ true → (x : Row) → Good live x (owed k x)
-  good-owed k l free = good-refl free
-  good-owed k l (used e v m) = pick-of (λ (n : ℕ → Bool). Good live (used e v m) (used e v n)) (ltb 0 (v .remaining)) (on k true m) m
+  pub good-waitsAgain : (k : ℕ) → live k ≡ true → (x : Row) → Good live x (waitsAgain k x)
+  good-waitsAgain k l free = good-refl free
+  good-waitsAgain k l (used e v m) = pick-of (λ (n : ℕ → Bool). Good live (used e v m) (used e v n)) (ltb 0 (v .remaining)) (on k true m) m
       (record { keep = keep-refl (used e v m); same = λ f. refl; alive = λ h j q. on-by k m l j (eqb j k) refl (h j) q; sized = λ h. h })
       (good-refl (used e v m))
 
@@ -97,11 +96,11 @@ module _ (live : ℕ → Bool) where
       (pick-of (Good live x) (newer (v .number) n) x (used e v (on k false m)) (good-refl x) (good-off k e v m))
 
   -- ---- values
-  pub good-renewed : (k : ℕ) (r : CsaRecord) → SizedValue (valueOf r) → (x : Row) → outOfDate (entryOf r) (r .number) x ≡ true → Good live x (renewed live k r x)
+  pub good-renewed : (k : ℕ) (r : CsaRecord) → SizedValue (valueOf r) → (x : Row) → Older (r .number) x → Good live x (renewed live k r x)
   good-renewed k r z free h = good-refl free
   good-renewed k r z (used e v m) h =
       record {
-        keep = (refl, le-of-lt (v .number .0) (r .number .0) (and-true (sameEntry e (entryOf r)) (newer (r .number) (v .number)) h .1));
+        keep = (refl, le-of-lt (v .number .0) (r .number .0) h);
         same = λ f. refl;
         alive = λ _ j q. spread-live k (r .hops - 1) j q;
         sized = λ s. (s .0, z);
@@ -195,9 +194,9 @@ module _ (live : ℕ → Bool) where
       pub grows-filled : Grows live a (filled (used e w m) a)
       grows-filled = grows-at (filled (used e w m) a) (length-change free isFree (λ _. used e w m) a) (changed free isFree (λ _. used e w m) a)
 
-    -- the row of an entry is the one that is out of date
-    pub outdated : (e : Entry) (n : CsaNumber) → has (outOfDate e n) a ≡ true → (i : ℕ) → holds e (rowAt a i) ≡ true → outOfDate e n (rowAt a i) ≡ true
-    outdated e n h i q = one-tells free (holds e) (outOfDate e n) (stale-holds e n) refl a (v .once e) i q ∙ h
+    -- what holds of an entry's row holds of the row that holds the entry
+    pub of-entry : (P : Row → Type 0) (e : Entry) → P (entryRow e a) → (i : ℕ) → holds e (rowAt a i) ≡ true → P (rowAt a i)
+    of-entry P e h i q = rw (one-found free (holds e) a (v .once e) i q) at h
 
     pub grows-unmarked : (k : ℕ) → Grows live a (map (unmarked k) a)
     grows-unmarked k = grows-each (map (unmarked k) a) (length-map a (unmarked k)) (λ i. rw (List·getD-map (unmarked k) a i free) (good-unmarked live k (rowAt a i)))

@@ -18,7 +18,7 @@ use Rattle.protocol.specs.Messages.{CsaRecord}
 use Rattle.rules.specs.Server.{rowsMost, Entry, Value, Row, free, used, isFree, holds, rowAt}
 use Rattle.rules.specs.Rows.{isPurged, unmarked, spread, filled, sweptRow, swept, clearedIf}
 use Rattle.rules.specs.Requests.{entryOf}
-use Rattle.rules.specs.Updates.{hopsMost, value, stepped, changedRow, newRow, purgedRow, valueOf, rowFor, renewed, owed, replied}
+use Rattle.rules.specs.Updates.{hopsMost, value, stepped, changedRow, newRow, purgedRow, valueOf, rowFor, renewed, waitsAgain, replied}
 use Rattle.rules.specs.History.{Act, put, take, waiting, Known, nowHeld, waitsAt, act, noActs, ownActs, storedActs, isOf, isDone, admit, opened, arrived, answered, changed, created, purging, left, leftIf}
 use Rattle.rules.specs.Demand3.{rowOf, Once}
 use Rattle.rules.proofs.Relation.{Alive, Sim}
@@ -113,7 +113,7 @@ module _ (live : ℕ → Bool) where
 
   -- the three changes of a row, by two tests
   abbrev pub merged : ℕ → CsaRecord → Bool → Bool → Row → Row
-  merged k r a b x = pick a (renewed live k r x) (pick b (owed k x) (unmarked k x))
+  merged k r a b x = pick a (renewed live k r x) (pick b (waitsAgain k x) (unmarked k x))
 
   pub arrived-of : (k : ℕ) (r : CsaRecord) (x : Known) → Alive live (rowOf x)
       → merged k r (newer (r .number) (nowHeld x .number)) (newer (nowHeld x .number) (r .number)) (rowOf x) ≡ rowOf (arrived live k r x)

@@ -15,43 +15,54 @@ use Rattle.protocol.specs.declared.Kind.the-variants.{Ca, CsuRequest, CsuReply,
 use Rattle.protocol.specs.declared.Checked.the-variants.{Fine}
 use Rattle.protocol.specs.Sizes.{idLength, payloadMost}
 use Rattle.protocol.specs.Fields.{octet, field4}
+use Rattle.protocol.specs.Numbers.{newer}
 use Rattle.protocol.specs.Messages.{CsaRecord, Message, csuRequest}
 use Rattle.protocol.specs.Checks.{countAt, elementsAt, elementsCheck}
 use Rattle.protocol.specs.Reading.{kindOf, recordAt, recordsAt, bodyAt, messageAt, message, readPacket}
 use Rattle.protocol.proofs.Told.{RecordTold, told, each-record}
 use Rattle.protocol.proofs.Codes.{read-as}
 use Rattle.protocol.proofs.RecordExact.{key-length, originator-length, payload-length}
-use Rattle.rules.specs.Server.{Entry, Row, isFree, holds, rowAt}
-use Rattle.rules.specs.Rows.{isPurged, unmarked, filled}
+use Rattle.rules.specs.Server.{Entry, Value, Row, free, used, isFree, isUsed, holds, rowAt}
+use Rattle.rules.specs.Rows.{entryRow, isPurged, unmarked, filled}
 use Rattle.rules.specs.Requests.{entryOf}
-use Rattle.rules.specs.Updates.{changedRow, newRow, setRows, withdrawRows, purgedRow, purgeRows, null, purgeAbsent, full, stored, equal, older, outOfDate, ahead, updateRule, valueOf, renewed, owed, rowsBy, Updated, byRule, allUpdated, replied, allReplied}
+use Rattle.rules.specs.Updates.{changedRow, newRow, setRows, withdrawRows, purgedRow, purgeRows, null as noRecord, purgeAbsent, full, stored, equal, older, ruleAt, updateRule, valueOf, renewed, waitsAgain, rowsBy, Updated, byRule, allUpdated, replied, allReplied}
 use Rattle.rules.proofs.Relation.{SizedEntry, SizedValue, RowsInv}
-use Rattle.rules.proofs.RowGrows.{spread-live, good-unmarked, good-owed, good-replied, good-renewed, good-changed, good-purged, Grows, grows-refl, grows-trans, grows-change, grows-filled, outdated}
+use Rattle.rules.proofs.Entries.{row-there}
+use Rattle.rules.proofs.RowGrows.{Older, spread-live, good-unmarked, good-waitsAgain, good-replied, good-renewed, good-changed, good-purged, Grows, grows-refl, grows-trans, grows-change, grows-filled, of-entry}
 
 abbrev pub SizedRecord : CsaRecord → Type 0
 SizedRecord r = SizedEntry (entryOf r) × SizedValue (valueOf r)
 
 -- ---- a record of a CSU Request
 module _ (live : ℕ → Bool) (k : ℕ) (r : CsaRecord) (rows : List Row) (l : live k ≡ true) (z : SizedRecord r) (v : RowsInv live rows) where
-  grows-renewed : has (outOfDate (entryOf r) (r .number)) rows ≡ true → Grows live rows (change (holds (entryOf r)) (renewed live k r) rows)
+  grows-renewed : Older (r .number) (entryRow (entryOf r) rows) → Grows live rows (change (holds (entryOf r)) (renewed live k r) rows)
   grows-renewed o =
       grows-change live rows v (holds (entryOf r)) (renewed live k r)
-      (λ i q. good-renewed live k r (z .1) (rowAt rows i) (outdated live rows v (entryOf r) (r .number) o i q))
+      (λ i q. good-renewed live k r (z .1) (rowAt rows i) (of-entry live rows v (Older (r .number)) (entryOf r) o i q))
 
-  by-rule : (n b o g q f : Bool) → has (holds (entryOf r)) rows ≡ b → has (outOfDate (entryOf r) (r .number)) rows ≡ o
-      → Grows live rows (rowsBy (pick n null (pick b (pick o stored (pick g older equal)) (pick q purgeAbsent (pick f stored full)))) live k r rows)
-  by-rule true b o g q f e h = grows-refl live rows v
-  by-rule false true true g q f e h = rw e (grows-renewed h)
-  by-rule false true false true q f e h = grows-change live rows v (holds (entryOf r)) (owed k) (λ i _. good-owed live k l (rowAt rows i))
-  by-rule false true false false q f e h = grows-change live rows v (holds (entryOf r)) (unmarked k) (λ i _. good-unmarked live k (rowAt rows i))
-  by-rule false false o g true f e h = grows-refl live rows v
-  by-rule false false o g false true e h = rw e (grows-filled live rows v (entryOf r) (valueOf r) _ e (spread-live live k (r .hops - 1)) z)
-  by-rule false false o g false false e h = grows-refl live rows v
+  -- the entry has no row; purged: it is; room: there is a free row
+  absent-by : (purged room : Bool) → has (holds (entryOf r)) rows ≡ false
+      → Grows live rows (rowsBy (pick purged purgeAbsent (pick room stored full)) live k r rows)
+  absent-by true room e = grows-refl live rows v
+  absent-by false true e = rw e (grows-filled live rows v (entryOf r) (valueOf r) _ e (spread-live live k (r .hops - 1)) z)
+  absent-by false false e = grows-refl live rows v
+
+  -- it has one; by how the numbers compare
+  held-by : (f : Entry) (w : Value) (m : ℕ → Bool) → entryRow (entryOf r) rows ≡ used f w m → has (holds (entryOf r)) rows ≡ true → (b g : Bool) → newer (r .number) (w .number) ≡ b
+      → Grows live rows (rowsBy (pick b stored (pick g older equal)) live k r rows)
+  held-by f w m q e true g h = rw e (grows-renewed (rw q h))
+  held-by f w m q e false true h = grows-change live rows v (holds (entryOf r)) (waitsAgain k) (λ i _. good-waitsAgain live k l (rowAt rows i))
+  held-by f w m q e false false h = grows-change live rows v (holds (entryOf r)) (unmarked k) (λ i _. good-unmarked live k (rowAt rows i))
+
+  by-row : (null : Bool) (x : Row) → entryRow (entryOf r) rows ≡ x
+      → Grows live rows (rowsBy (pick null noRecord (ruleAt (r .number) (has isFree rows) x)) live k r rows)
+  by-row true x q = grows-refl live rows v
+  by-row false free q = absent-by (isPurged (r .number)) (has isFree rows) (row-there (entryOf r) rows ∙ ap isUsed q)
+  by-row false (used f w m) q =
+      held-by f w m q (row-there (entryOf r) rows ∙ ap isUsed q) (newer (r .number) (w .number)) (newer (w .number) (r .number)) refl
 
   pub grows-by : Grows live rows (rowsBy (updateRule r rows) live k r rows)
-  grows-by =
-      by-rule (r .null) (has (holds (entryOf r)) rows) (has (outOfDate (entryOf r) (r .number)) rows) (has (ahead (entryOf r) (r .number)) rows)
-      (isPurged (r .number)) (has isFree rows) refl refl
+  grows-by = by-row (r .null) (entryRow (entryOf r) rows) refl
 
 pub rows-by : (live : ℕ → Bool) (k : ℕ) (r : CsaRecord) (rows : List Row) → live k ≡ true → SizedRecord r → RowsInv live rows
     → RowsInv live (rowsBy (updateRule r rows) live k r rows)

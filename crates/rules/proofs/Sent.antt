@@ -8,6 +8,7 @@ use lib.Dec.{eqb}
 use lib.ListN.{length, take}
 use Rattle.laws.specs.Lists.{All}
 use Rattle.laws.specs.Tables.{without, In}
+use borrow.Author.Tests.{eqb-true}
 use Rattle.laws.proofs.Perms.{perm-in}
 use Rattle.laws.proofs.Tables.{in-map}
 use Rattle.laws.proofs.Cells.{in-without}
@@ -20,16 +21,16 @@ use Rattle.rules.specs.Links.{isPast, enters, checkMove}
 use Rattle.rules.specs.Rows.{nextWaiting, used1, rowsOf}
 use Rattle.rules.specs.Slots.{passed, emptied, withLink, withKept}
 use Rattle.rules.specs.Sent.{octetsOf}
-use Rattle.rules.specs.Poll.{Due, none, aHello, firstCa, keptCa, aCsus, anUpdate, caInterval, firstFlags, helloOf, firstCaOf, csusOf, requestRecord, heldRecord, updateOf, dueOf, sentBy, keptDropped, checked}
+use Rattle.rules.specs.Poll.{Due, nothingDue, aHello, firstCa, keptCa, aCsus, anUpdate, caInterval, firstFlags, helloOf, firstCaOf, csusOf, requestRecord, heldRecord, updateOf, dueOf, dueSent, keptDropped, checked}
 use Rattle.rules.specs.Refusals.{pollCode}
 use Rattle.rules.specs.Events.{poll, codeOf, sentIf, writtenAt, itemOf}
 use Rattle.rules.specs.History.{Known, waitsAt, History}
-use Rattle.rules.specs.Demand3.{rowOf, isRequest, requestIn, HeldAndWaiting}
+use Rattle.rules.specs.Demand3.{rowOf, isRequestType, requestRecords, HeldAndWaiting}
 use Rattle.rules.proofs.Relation.{Sized, Inv, Sim, Rel}
-use Rattle.rules.proofs.TurnLaws.{next-passes}
+use Rattle.rules.proofs.NextLaws.{next-passes}
 use Rattle.rules.proofs.RequestBack.{Readable, request-back, not-hello, not-ca, not-csus}
-use Rattle.rules.proofs.Kept.{KeptCa, Plain, plain-checked}
-use Rattle.rules.proofs.CodeTold.{poll-told}
+use Rattle.rules.proofs.Kept.{KeepsCa, KeptCa, no-request, kept-checked}
+use Rattle.rules.proofs.CodeTold.{poll-in-use}
 
 -- ---- the rows that wait are entries of the history
 module _ (k : ℕ) (rows : List Row) (es : List Known) (m : Sim rows es) where
@@ -60,7 +61,7 @@ plain-all rows z [] = tt
 plain-all rows z (j ∷ js) = plain-one (rowAt rows (j % rowsMost)) (rowsOf heldRecord rows js) (z (j % rowsMost)) (plain-all rows z js)
 
 pub update-back : (s : Server) → Inv s → (k : ℕ) (y : Slot) → length (y .peer) ≡ idLength
-    → requestIn (packetOf (updateOf (s .settings) (s .rows) k y)) ≡ rowsOf heldRecord (s .rows) (nextWaiting (s .rows) k (y .cursor))
+    → requestRecords (packetOf (updateOf (s .settings) (s .rows) k y)) ≡ rowsOf heldRecord (s .rows) (nextWaiting (s .rows) k (y .cursor))
 update-back s v k y p =
     let js = nextWaiting (s .rows) k (y .cursor) in
     request-back (s .settings) y (rowsOf heldRecord (s .rows) js) (v .own) p (plain-all (s .rows) (v .rows .sized) js)
@@ -76,29 +77,29 @@ peer-checked now x =
 
 pub peer-length : (s : Server) → Inv s → (k now room : ℕ) → eqb (pollCode s k now room) 0 ≡ true
     → length (keptDropped now (checked now (slotAt s k)) .peer) ≡ idLength
-peer-length s v k now room e = ap length (peer-checked now (slotAt s k)) ∙ v .peers k (poll-told s k now room e)
+peer-length s v k now room e = ap length (peer-checked now (slotAt s k)) ∙ v .peers k .id (poll-in-use s k now room (eqb-true (pollCode s k now room) 0 e))
 
 -- ---- what a poll writes
-no-records : (P : CsaRecord → Type 0) (p : List ℕ) → isRequest p ≡ false → All P (requestIn p)
+no-records : (P : CsaRecord → Type 0) (p : List ℕ) → isRequestType p ≡ false → All P (requestRecords p)
 no-records P p h = rw h tt
 
-sent-due : (s : Server) (es : List Known) → Inv s → Sim (s .rows) es → (k : ℕ) (y : Slot) → Plain y → length (y .peer) ≡ idLength → (d : Due)
-    → All (HeldAndWaiting k es) (requestIn (octetsOf (sentBy d (s .settings) (s .rows) k y)))
-sent-due s es v m k y p l none = tt
+sent-due : (s : Server) (es : List Known) → Inv s → Sim (s .rows) es → (k : ℕ) (y : Slot) → KeepsCa y → length (y .peer) ≡ idLength → (d : Due)
+    → All (HeldAndWaiting k es) (requestRecords (octetsOf (dueSent d (s .settings) (s .rows) k y)))
+sent-due s es v m k y p l nothingDue = tt
 sent-due s es v m k y p l aHello = no-records (HeldAndWaiting k es) (packetOf (helloOf (s .settings) y)) (not-hello (s .settings) y)
 sent-due s es v m k y p l firstCa = no-records (HeldAndWaiting k es) (packetOf (firstCaOf (s .settings) y)) (not-ca (s .settings) y (y .link .number) firstFlags [])
-sent-due s es v m k y p l keptCa = no-records (HeldAndWaiting k es) (y .kept) p
+sent-due s es v m k y p l keptCa = no-records (HeldAndWaiting k es) (y .kept) (no-request (y .link .alignment) (y .kept) p)
 sent-due s es v m k y p l aCsus = no-records (HeldAndWaiting k es) (packetOf (csusOf (s .settings) y)) (not-csus (s .settings) y (map requestRecord (take 4 (y .requests))))
 sent-due s es v m k y p l anUpdate = rw (update-back s v k y l) (held-rows k (s .rows) es m (y .cursor))
 
 sent-by : (s : Server) (es : List Known) → Inv s → Sim (s .rows) es → KeptCa s → (k now room : ℕ) (b : Bool) → eqb (pollCode s k now room) 0 ≡ b
-    → All (HeldAndWaiting k es) (requestIn (octetsOf (sentIf b s (poll k now room))))
+    → All (HeldAndWaiting k es) (requestRecords (octetsOf (sentIf b s (poll k now room))))
 sent-by s es v m a k now room true e =
     let y = keptDropped now (checked now (slotAt s k)) in
-    sent-due s es v m k y (plain-checked now (slotAt s k) (a k)) (peer-length s v k now room e) (dueOf (s .settings) now (s .rows) k y)
+    sent-due s es v m k y (kept-checked now (slotAt s k) (a k)) (peer-length s v k now room e) (dueOf (s .settings) now (s .rows) k y)
 sent-by s es v m a k now room false e = tt
 
 pub sent : (s : Server) (h : History) (c : Settings) → Inv s → Rel c s h → KeptCa s → (k now room : ℕ)
-    → All (HeldAndWaiting k (h .entries)) (requestIn (itemOf s (poll k now room) .written))
+    → All (HeldAndWaiting k (h .entries)) (requestRecords (itemOf s (poll k now room) .written))
 unfolding writtenAt codeOf
 sent s h c v r a k now room = sent-by s (h .entries) v (r .rows) a k now room (eqb (pollCode s k now room) 0) refl

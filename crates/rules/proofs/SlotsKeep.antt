@@ -9,7 +9,7 @@ use lib.Dec.{eqb}
 use lib.Seq.{getD-set-other}
 use lib.ListN.{length, getD, length-set, List·getD-map}
 use lib.ListN as lists
-use borrow.Author.Tests.{eqb-false}
+use borrow.Author.Tests.{eqb-true, eqb-false}
 use Rattle.laws.specs.Choice.{pick}
 use Rattle.laws.proofs.Bools.{pick-of}
 use Rattle.laws.proofs.Cells.{each-set}
@@ -20,89 +20,100 @@ use Rattle.protocol.specs.Sizes.{idLength}
 use Rattle.protocol.specs.Messages.{Message, Body, ca, csuRequest, csuReply, csus, hello}
 use Rattle.protocol.specs.Reading.{Reading, refused, malformed, message, readPacket}
 use Rattle.rules.specs.Server.{Settings, Row, free, used, rowAt, Slot, freshSlot, Server, slotAt}
-use Rattle.rules.specs.Links.{CaRule, refuse, becomeSlave, becomeMaster, repeat, slaveOn, masterOn, masterDone, ignore, restart, isDown, isLive, isPast, enters, upMove, downMove, helloMove, malformedMove, caMove, checkMove}
+use Rattle.rules.specs.Links.{CaRule, refuseCa, becomeSlave, becomeMaster, repeat, slaveOn, masterOn, masterDone, ignore, restart, isDown, isLive, isPast, enters, upMove, downMove, helloMove, malformedMove, caMove, checkMove}
 use Rattle.rules.specs.Rows.{unmarked, clearedIf}
 use Rattle.rules.specs.Slots.{passed, withLink, withKept, emptied, moved, helloSent}
 use Rattle.rules.specs.Alignment.{CaPacket, caPacket, ruleFor, answerMore, caSlot}
 use Rattle.rules.specs.Packets.{namesUs, slotOn}
-use Rattle.rules.specs.Poll.{Due, none, aHello, firstCa, keptCa, aCsus, anUpdate, caInterval, dueOf, slotBy, keptDropped, checked, pollSlot}
-use Rattle.rules.specs.Events.{Event, addPeer, linkUp, linkDown, packet, poll, set, withdraw, purge, codeOf, counts, Place, inSlot, nowhere, alignmentAt, liveIn, upSlot, readSlot, slotAfter, slotsAfter, cleared}
-use Rattle.rules.proofs.Relation.{Alive, RowsInv}
+use Rattle.rules.specs.Poll.{Due, nothingDue, aHello, firstCa, keptCa, aCsus, anUpdate, caInterval, dueOf, dueSlot, keptDropped, checked, pollSlot}
+use Rattle.rules.specs.Refusals.{linkCode, pollCode}
+use Rattle.rules.specs.Events.{Event, addPeer, linkUp, linkDown, packet, poll, set, withdraw, purge, codeOf, counts, Place, inSlot, nowhere, alignmentAt, placeOf, liveIn, peerSlot, upSlot, downSlot, readSlot, slotAfter, slotsAfter, cleared}
+use Rattle.rules.proofs.Relation.{Alive, RowsInv, Peered}
 use Rattle.rules.proofs.RowGrows.{Grows, grows-refl, grows-unmarked, keep-refl}
-use Rattle.rules.proofs.CodeTold.{peer-told}
+use Rattle.rules.proofs.CodeTold.{peer-told, link-in-use, poll-in-use, packet-in-use}
 
--- ---- the peer's ID
-abbrev pub Peered : Slot → Type 0
-Peered x = x .used ≡ true → length (x .peer) ≡ idLength
+-- ---- the same peer, or none
+abbrev pub SamePeer : Slot → Slot → Type 0
+SamePeer x y = (y .used ≡ x .used) × (y .peer ≡ x .peer)
 
-peered-moved : (l : Link) (x : Slot) → Peered x → Peered (moved l x)
-peered-moved l x h = pick-of Peered (enters (x .link .alignment) (l .alignment)) (emptied (withLink l x)) (withLink l x) h h
+same-moved : (l : Link) (x : Slot) → SamePeer x (moved l x)
+same-moved l x = pick-of (SamePeer x) (enters (x .link .alignment) (l .alignment)) (emptied (withLink l x)) (withLink l x) (refl, refl) (refl, refl)
 
-peered-ca : (u : CaRule) (s : Settings) (now : ℕ) (rows : List Row) (c : CaPacket) (x : Slot) → Peered x → Peered (caSlot u s now rows c x)
-peered-ca refuse s now rows c x h = h
-peered-ca becomeSlave s now rows c x h = peered-moved (caMove becomeSlave (c .seen) (answerMore becomeSlave rows x) (x .link)) x h
-peered-ca becomeMaster s now rows c x h = peered-moved (caMove becomeMaster (c .seen) (answerMore becomeMaster rows x) (x .link)) x h
-peered-ca repeat s now rows c x h = h
-peered-ca slaveOn s now rows c x h = peered-moved (caMove slaveOn (c .seen) (answerMore slaveOn rows x) (x .link)) x h
-peered-ca masterOn s now rows c x h = peered-moved (caMove masterOn (c .seen) (answerMore masterOn rows x) (x .link)) x h
-peered-ca masterDone s now rows c x h = peered-moved (caMove masterDone (c .seen) (answerMore masterDone rows x) (x .link)) x h
-peered-ca ignore s now rows c x h = h
-peered-ca restart s now rows c x h = peered-moved (caMove restart (c .seen) false (x .link)) x h
+same-ca : (u : CaRule) (s : Settings) (now : ℕ) (rows : List Row) (c : CaPacket) (x : Slot) → SamePeer x (caSlot u s now rows c x)
+same-ca refuseCa s now rows c x = (refl, refl)
+same-ca becomeSlave s now rows c x = same-moved (caMove becomeSlave (c .seen) (answerMore becomeSlave rows x) (x .link)) x
+same-ca becomeMaster s now rows c x = same-moved (caMove becomeMaster (c .seen) (answerMore becomeMaster rows x) (x .link)) x
+same-ca repeat s now rows c x = (refl, refl)
+same-ca slaveOn s now rows c x = same-moved (caMove slaveOn (c .seen) (answerMore slaveOn rows x) (x .link)) x
+same-ca masterOn s now rows c x = same-moved (caMove masterOn (c .seen) (answerMore masterOn rows x) (x .link)) x
+same-ca masterDone s now rows c x = same-moved (caMove masterDone (c .seen) (answerMore masterDone rows x) (x .link)) x
+same-ca ignore s now rows c x = (refl, refl)
+same-ca restart s now rows c x = same-moved (caMove restart (c .seen) false (x .link)) x
 
-peered-on : (b : Body) (s : Settings) (live : ℕ → Bool) (k now : ℕ) (rows : List Row) (m : Message) (x : Slot) → Peered x → Peered (slotOn b s live k now rows m x)
-peered-on (hello i f ids) s live k now rows m x h = peered-moved (helloMove now i f (namesUs (s .id) (m .receiver) ids) (x .link)) x h
-peered-on (ca n f rs) s live k now rows m x h = peered-ca (ruleFor (s .id) (caPacket n f rs (m .sender)) x) s now rows (caPacket n f rs (m .sender)) x h
-peered-on (csuRequest rs) s live k now rows m x h = h
-peered-on (csuReply rs) s live k now rows m x h = h
-peered-on (csus rs) s live k now rows m x h = h
+same-on : (b : Body) (s : Settings) (live : ℕ → Bool) (k now : ℕ) (rows : List Row) (m : Message) (x : Slot) → SamePeer x (slotOn b s live k now rows m x)
+same-on (hello i f ids) s live k now rows m x = same-moved (helloMove now i f (namesUs (s .id) (m .receiver) ids) (x .link)) x
+same-on (ca n f rs) s live k now rows m x = same-ca (ruleFor (s .id) (caPacket n f rs (m .sender)) x) s now rows (caPacket n f rs (m .sender)) x
+same-on (csuRequest rs) s live k now rows m x = (refl, refl)
+same-on (csuReply rs) s live k now rows m x = (refl, refl)
+same-on (csus rs) s live k now rows m x = (refl, refl)
 
-peered-read : (r : Reading) (s : Settings) (live : ℕ → Bool) (k now : ℕ) (rows : List Row) (x : Slot) → Peered x → Peered (readSlot r s live k now rows x)
-peered-read (refused c) s live k now rows x h = h
-peered-read (malformed at) s live k now rows x h = peered-moved (malformedMove (x .link)) x h
-peered-read (message m) s live k now rows x h = peered-on (m .body) s live k now rows m x h
+same-read : (r : Reading) (s : Settings) (live : ℕ → Bool) (k now : ℕ) (rows : List Row) (x : Slot) → SamePeer x (readSlot r s live k now rows x)
+same-read (refused c) s live k now rows x = (refl, refl)
+same-read (malformed at) s live k now rows x = same-moved (malformedMove (x .link)) x
+same-read (message m) s live k now rows x = same-on (m .body) s live k now rows m x
 
-peered-by : (d : Due) (s : Settings) (now : ℕ) (rows : List Row) (k : ℕ) (x : Slot) → Peered x → Peered (slotBy d s now rows k x)
-peered-by none s now rows k x h = h
-peered-by aHello s now rows k x h = h
-peered-by firstCa s now rows k x h = h
-peered-by keptCa s now rows k x h = h
-peered-by aCsus s now rows k x h = h
-peered-by anUpdate s now rows k x h = h
+same-by : (d : Due) (s : Settings) (now : ℕ) (rows : List Row) (k : ℕ) (x : Slot) → SamePeer x (dueSlot d s now rows k x)
+same-by nothingDue s now rows k x = (refl, refl)
+same-by aHello s now rows k x = (refl, refl)
+same-by firstCa s now rows k x = (refl, refl)
+same-by keptCa s now rows k x = (refl, refl)
+same-by aCsus s now rows k x = (refl, refl)
+same-by anUpdate s now rows k x = (refl, refl)
 
-peered-dropped : (now : ℕ) (x : Slot) → Peered x → Peered (keptDropped now x)
-peered-dropped now x h = pick-of Peered (isPast (x .link .alignment) && passed caInterval (x .timers .ca) now) (withKept [] x) x h h
+same-dropped : (now : ℕ) (x : Slot) → SamePeer x (keptDropped now x)
+same-dropped now x = pick-of (SamePeer x) (isPast (x .link .alignment) && passed caInterval (x .timers .ca) now) (withKept [] x) x (refl, refl) (refl, refl)
 
-peered-poll : (s : Settings) (now : ℕ) (rows : List Row) (k : ℕ) (x : Slot) → Peered x → Peered (pollSlot s now rows k x)
-peered-poll s now rows k x h =
+same-trans : (x y z : Slot) → SamePeer x y → SamePeer y z → SamePeer x z
+same-trans x y z p q = (q .0 ∙ p .0, q .1 ∙ p .1)
+
+same-poll : (s : Settings) (now : ℕ) (rows : List Row) (k : ℕ) (x : Slot) → SamePeer x (pollSlot s now rows k x)
+same-poll s now rows k x =
     let y : Slot = keptDropped now (checked now x) in
-    peered-by (dueOf s now rows k y) s now rows k y (peered-dropped now (checked now x) (peered-moved (checkMove now (x .link)) x h))
+    same-trans x y (pollSlot s now rows k x) (same-trans x (checked now x) y (same-moved (checkMove now (x .link)) x) (same-dropped now (checked now x)))
+    (same-by (dueOf s now rows k y) s now rows k y)
 
-peered-up : (x : Slot) → Peered x → Peered (upSlot x)
-peered-up x h = pick-of Peered (isDown (x .link .hello)) (helloSent _ (moved (upMove (x .link)) x)) x (peered-moved (upMove (x .link)) x h) h
-
-peered-after : (s : Server) (e : Event) → counts e (codeOf s e) ≡ true → (live : ℕ → Bool) (rows : List Row) (x : Slot) → Peered x
-    → Peered (slotAfter e (s .settings) live rows x)
-unfolding codeOf
-peered-after s (addPeer k id) c live rows x h = λ _. peer-told s k id c
-peered-after s (linkUp k now) c live rows x h = peered-up x h
-peered-after s (linkDown k now) c live rows x h = peered-moved (downMove (x .link)) x h
-peered-after s (packet k now p room) c live rows x h = peered-read (readPacket idLength p) (s .settings) live k now rows x h
-peered-after s (poll k now room) c live rows x h = peered-poll (s .settings) now rows k x h
-peered-after s (set key payload) c live rows x h = h
-peered-after s (withdraw key) c live rows x h = h
-peered-after s (purge key) c live rows x h = h
+same-up : (x : Slot) → SamePeer x (upSlot x)
+same-up x = pick-of (SamePeer x) (isDown (x .link .hello)) (helloSent _ (moved (upMove (x .link)) x)) x (same-moved (upMove (x .link)) x) (refl, refl)
 
 -- ---- all slots
 pub slots-length : (w : Place) (e : Event) (s : Server) → length (slotsAfter w e s) ≡ length (s .slots)
 slots-length (inSlot k) e s = length-set (s .slots) k (slotAfter e (s .settings) (liveIn (s .slots)) (s .rows) (slotAt s k))
 slots-length nowhere e s = refl
 
-pub slots-peered : (w : Place) (e : Event) (s : Server) → counts e (codeOf s e) ≡ true → ((j : ℕ) → Peered (slotAt s j))
-    → (j : ℕ) → Peered (getD (slotsAfter w e s) j freshSlot)
-slots-peered (inSlot k) e s c h =
-    each-set Peered freshSlot (slotAfter e (s .settings) (liveIn (s .slots)) (s .rows) (slotAt s k))
-    (peered-after s e c (liveIn (s .slots)) (s .rows) (slotAt s k) (h k)) (s .slots) k h
-slots-peered nowhere e s c h = h
+module _ (s : Server) (h : (j : ℕ) → Peered (slotAt s j)) where
+  -- a slot in use stays in use, with its peer
+  kept-peer : (k : ℕ) (y : Slot) → slotAt s k .used ≡ true → SamePeer (slotAt s k) y → (j : ℕ) → Peered (getD (lists.set (s .slots) k y) j freshSlot)
+  kept-peer k y u e =
+      each-set Peered freshSlot y
+      (record { id = λ _. ap length (e .1) ∙ h k .id u; none = λ n. absurd (false≢true (sym n ∙ e .0 ∙ u)) }) (s .slots) k h
+
+  pub slots-peered : (e : Event) → counts e (codeOf s e) ≡ true → (j : ℕ) → Peered (getD (slotsAfter (placeOf e) e s) j freshSlot)
+  unfolding codeOf
+  slots-peered (addPeer k id) c =
+      each-set Peered freshSlot (peerSlot id) (record { id = λ _. peer-told s k id c; none = λ _. refl }) (s .slots) k h
+  slots-peered (linkUp k now) c =
+      kept-peer k (upSlot (slotAt s k)) (link-in-use s k now (eqb-true (linkCode s k now) 0 c)) (same-up (slotAt s k))
+  slots-peered (linkDown k now) c =
+      kept-peer k (downSlot (slotAt s k)) (link-in-use s k now (eqb-true (linkCode s k now) 0 c)) (same-moved (downMove (slotAt s k .link)) (slotAt s k))
+  slots-peered (packet k now p room) c =
+      kept-peer k (slotAfter (packet k now p room) (s .settings) (liveIn (s .slots)) (s .rows) (slotAt s k)) (packet-in-use s k now p room c)
+      (same-read (readPacket idLength p) (s .settings) (liveIn (s .slots)) k now (s .rows) (slotAt s k))
+  slots-peered (poll k now room) c =
+      kept-peer k (pollSlot (s .settings) now (s .rows) k (slotAt s k)) (poll-in-use s k now room (eqb-true (pollCode s k now room) 0 c))
+      (same-poll (s .settings) now (s .rows) k (slotAt s k))
+  slots-peered (set key payload) c = h
+  slots-peered (withdraw key) c = h
+  slots-peered (purge key) c = h
 
 -- ---- marks: where a slot is no longer live, it entered Down or Negotiate
 stays-live : (a b : Alignment) → isLive a ≡ true → enters a b ≡ false → isLive b ≡ true

@@ -16,7 +16,8 @@ use Rattle.laws.specs.Tables.{has, same}
 use Rattle.protocol.specs.Sizes.{idLength}
 use Rattle.protocol.specs.Answers.{Refusal, refuse, firstCode}
 use Rattle.rules.specs.Server.{slotsMost, isFree, Server, slotAt}
-use Rattle.rules.specs.Refusals.{noPeer, early, noRoom, linkIsDown, linkCode, isPeer, keyGood, payloadGood, ownEntry, firstRow, rowSpent, rowPurged, rowEmpty}
+use Rattle.rules.specs.Rows.{entryRow}
+use Rattle.rules.specs.Refusals.{noPeer, early, noRoom, linkIsDown, linkCode, isPeer, ownKeyGood, ownPayloadGood, ownEntry, rowSpent, rowPurged, rowEmpty}
 use Rattle.rules.specs.Events.{addPeer, linkUp, linkDown, poll, set, withdraw, purge, codeOf}
 
 -- ---- over a list of refusals
@@ -183,22 +184,22 @@ add-peer-codes s k id =
 -- 17: 'bad .. key or payload length'; 16: 'the number is 2147483646 or more', or a purge of a purged entry; 15: 'new entry, no free
 -- row'; 18: 'absent', or for a withdrawal 'already empty'
 abbrev pub keyBad : List ℕ → Bool
-keyBad key = not (keyGood key)
+keyBad key = not (ownKeyGood key)
 
 abbrev pub setBad : List ℕ → List ℕ → Bool
-setBad key payload = not (keyGood key && payloadGood payload)
+setBad key payload = not (ownKeyGood key && ownPayloadGood payload)
 
 abbrev pub numberSpent : Server → List ℕ → Bool
-numberSpent s key = rowSpent (firstRow (ownEntry (s .settings) key) (s .rows))
+numberSpent s key = rowSpent (entryRow (ownEntry (s .settings) key) (s .rows))
 
 abbrev pub alreadyPurged : Server → List ℕ → Bool
-alreadyPurged s key = rowPurged (firstRow (ownEntry (s .settings) key) (s .rows))
+alreadyPurged s key = rowPurged (entryRow (ownEntry (s .settings) key) (s .rows))
 
 abbrev pub absent : Server → List ℕ → Bool
-absent s key = isFree (firstRow (ownEntry (s .settings) key) (s .rows))
+absent s key = isFree (entryRow (ownEntry (s .settings) key) (s .rows))
 
 abbrev pub absentOrEmpty : Server → List ℕ → Bool
-absentOrEmpty s key = rowEmpty (firstRow (ownEntry (s .settings) key) (s .rows))
+absentOrEmpty s key = rowEmpty (entryRow (ownEntry (s .settings) key) (s .rows))
 
 abbrev pub noFreeRow : Server → Bool
 noFreeRow s = not (has isFree (s .rows))

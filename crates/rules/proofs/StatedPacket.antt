@@ -60,7 +60,7 @@ messageRefusals s x m =
     refuse (otherGroup s m) 11 ∷ refuse (otherReceiver s m) 12 ∷ refuse (otherSender x m) 13 ∷ refuse (notUsable s x m) 14 ∷ []
 
 -- 0, or above 10
-message-range : (s : Settings) (x : Slot) (m : Message) → (messageCode s x m ≡ 0) ⊎ (10 < messageCode s x m)
+pub message-range : (s : Settings) (x : Slot) (m : Message) → (messageCode s x m ≡ 0) ⊎ (10 < messageCode s x m)
 message-range s x m = by (otherGroup s m) (otherReceiver s m) (otherSender x m) (notUsable s x m) where
   by : (a b c d : Bool) → let n = firstCode (refuse a 11 ∷ refuse b 12 ∷ refuse c 13 ∷ refuse d 14 ∷ []) in (n ≡ 0) ⊎ (10 < n)
   by true b c d = inr (omega arith)
@@ -94,12 +94,12 @@ reader-range n (inr (inr (inr (inr (inr (inr e)))))) = inr (omega arith, omega a
 
 pub refused-most : (p : List ℕ) (c : ℕ) → readPacket idLength p ≡ refused c → c ≤ 10
 refused-most p c e =
-    let q : reading.codeOf (readPacket idLength p) ≡ c = ap reading.codeOf e in
-    ⊎-elim (λ z. omega arith) (λ z. let y = z .1 in omega arith) (reader-range (reading.codeOf (readPacket idLength p)) (read.no-other idLength p))
+    let q : reading.refusalOf (readPacket idLength p) ≡ c = ap reading.refusalOf e in
+    ⊎-elim (λ z. omega arith) (λ z. let y = z .1 in omega arith) (reader-range (reading.refusalOf (readPacket idLength p)) (read.no-other idLength p))
 
 module _ (s : Settings) (x : Slot) where
   -- a code of the reader
-  by-reader : (r : Reading) (n : ℕ) → 0 < n → n ≤ 10 → (readingCode s x r ≡ n) ↔ (reading.codeOf r ≡ n)
+  by-reader : (r : Reading) (n : ℕ) → 0 < n → n ≤ 10 → (readingCode s x r ≡ n) ↔ (reading.refusalOf r ≡ n)
   by-reader (refused c) n l h = (λ e. e, λ e. e)
   by-reader (malformed at) n l h = (λ e. e, λ e. e)
   by-reader (message m) n l h =
@@ -160,15 +160,15 @@ module _ (s : Server) (k now : ℕ) (p : List ℕ) (room : ℕ) where
   abbrev rest : ℕ
   rest = readingCode (s .settings) (slotAt s k) (readPacket idLength p)
 
-  in-range : (reading.codeOf (readPacket idLength p) ≡ 0) ⊎ ((4 < reading.codeOf (readPacket idLength p)) × (reading.codeOf (readPacket idLength p) ≤ 10))
-  in-range = reader-range (reading.codeOf (readPacket idLength p)) (read.no-other idLength p)
+  in-range : (reading.refusalOf (readPacket idLength p) ≡ 0) ⊎ ((4 < reading.refusalOf (readPacket idLength p)) × (reading.refusalOf (readPacket idLength p) ≤ 10))
+  in-range = reader-range (reading.refusalOf (readPacket idLength p)) (read.no-other idLength p)
 
   -- a code of 1 to 4
   first : (n : ℕ) {C : Type 0} → 0 < n → n ≤ 4 → (pollCode s k now room ≡ n) ↔ C → (packetCodeOf ≡ n) ↔ C
   unfolding codeOf
   first n l h f =
       Iff·trans (or-first (pollCode s k now room) rest n l
-      (λ e. let g : reading.codeOf (readPacket idLength p) ≡ n = by-reader (s .settings) (slotAt s k) (readPacket idLength p) n l (omega arith) .0 e in
+      (λ e. let g : reading.refusalOf (readPacket idLength p) ≡ n = by-reader (s .settings) (slotAt s k) (readPacket idLength p) n l (omega arith) .0 e in
       ⊎-elim (λ z. omega arith) (λ z. let y = z .0 in omega arith) in-range)) f
 
   later : (n : ℕ) {C : Type 0} → 4 < n → (rest ≡ n) ↔ C → (packetCodeOf ≡ n) ↔ (Open × C)
@@ -178,7 +178,7 @@ module _ (s : Server) (k now : ℕ) (p : List ℕ) (room : ℕ) where
       Iff·trans (or-later (pollCode s k now room) rest n (omega arith)) (λ e. (e .0, f .0 (e .1)), λ e. (e .0, f .1 (e .1)))
 
   -- a code of 5 to 10
-  middle : (n : ℕ) {C : Type 0} → 4 < n → n ≤ 10 → (reading.codeOf (readPacket idLength p) ≡ n) ↔ C → (packetCodeOf ≡ n) ↔ (Open × C)
+  middle : (n : ℕ) {C : Type 0} → 4 < n → n ≤ 10 → (reading.refusalOf (readPacket idLength p) ≡ n) ↔ C → (packetCodeOf ≡ n) ↔ (Open × C)
   middle n l h f = later n l (Iff·trans (by-reader (s .settings) (slotAt s k) (readPacket idLength p) n (omega arith) h) f)
 
   -- a code of 11 to 14

@@ -16,12 +16,13 @@ use Rattle.rules.specs.Server.{Settings, Entry, sameEntry, Value, Row, f
 use Rattle.rules.specs.Links.{enters}
 use Rattle.rules.specs.Rows.{unmarked, spread, filled, swept, clearedIf}
 use Rattle.rules.specs.Requests.{entryOf}
-use Rattle.rules.specs.Updates.{hopsMost, value, changedRow, purgedRow, UpdateRule, null, purgeAbsent, full, stored, equal, older, updateRule, valueOf, renewed, owed, rowsBy, Updated, byRule, allUpdated, replied, allReplied}
+use Rattle.rules.specs.Updates.{hopsMost, value, changedRow, purgedRow, UpdateRule, null, purgeAbsent, full, stored, equal, older, updateRule, valueOf, renewed, waitsAgain, rowsBy, Updated, byRule, allUpdated, replied, allReplied}
 use Rattle.rules.specs.Packets.{rowsOn}
 use Rattle.rules.specs.Refusals.{ownEntry}
-use Rattle.rules.specs.Events.{Event, addPeer, linkUp, linkDown, packet, poll, set, withdraw, purge, counts, codeOf, Place, inSlot, nowhere, placeOf, alignmentAt, liveIn, slotsAfter, readRows, rowsChanged, cleared, acted, serverIf, step}
+use Rattle.rules.specs.Events.{Event, addPeer, linkUp, linkDown, packet, poll, set, withdraw, purge, counts, codeOf, Place, inSlot, nowhere, placeOf, alignmentAt, liveIn, slotsAfter, readRows, rowsChanged, cleared, serverIf, step}
 use Rattle.rules.proofs.Relation.{Inv}
-use Rattle.rules.proofs.Entries.{holds-along, Alike, alike-unmarked, alike-owed, alike-replied, alike-renewed, alike-changed, alike-purged}
+use Rattle.rules.proofs.Entries.{holds-along, Alike, alike-unmarked, alike-waitsAgain, alike-replied, alike-renewed, alike-changed, alike-purged}
+use Rattle.rules.proofs.Ends.{changedRows, rowsAt, acted-rows}
 use Rattle.rules.proofs.Invariant.{swept-at, swept-holds}
 
 -- ---- row i holds the entry x, and no other row does
@@ -63,7 +64,7 @@ module _ (x : Entry) (i : ℕ) where
   only-rule stored live k r rows o =
       only-pick (entryOf r) (valueOf r) (spread live k (r .hops - 1)) (renewed live k r) (alike-renewed live k r) rows o (has (holds (entryOf r)) rows) refl
   only-rule equal live k r rows o = only-change (holds (entryOf r)) (unmarked k) (alike-unmarked k) rows o
-  only-rule older live k r rows o = only-change (holds (entryOf r)) (owed k) (alike-owed k) rows o
+  only-rule older live k r rows o = only-change (holds (entryOf r)) (waitsAgain k) (alike-waitsAgain k) rows o
 
   only-updated : (live : ℕ → Bool) (k : ℕ) (rs : List CsaRecord) (u : Updated) → Only (u .rows) → Only (allUpdated live k rs u .rows)
   only-updated live k [] u o = o
@@ -116,16 +117,17 @@ module _ (x : Entry) (i : ℕ) where
       let z : f .0 ≡ i = o .alone (f .0) (swept-holds x (rowAt rows (f .0)) (rowAt (swept rows) (f .0)) (swept-at rows (f .0)) (f .1)) in
       rw (← z) (f .1)
 
-  stays-if : (s : Server) (e : Event) → Only (s .rows) → (b : Bool) → has (holds x) (serverIf b s e .rows) ≡ true → holds x (rowAt (serverIf b s e .rows) i) ≡ true
-  unfolding acted
-  stays-if s e o true h =
-      let rows = rowsChanged e (s .settings) (liveIn (s .slots)) (s .rows) in
-      let after = slotsAfter (placeOf e) e s in
-      stays-swept (cleared (placeOf e) (s .slots) after rows)
-      (only-cleared (placeOf e) (s .slots) after rows (only-event e (s .settings) (liveIn (s .slots)) (s .rows) o)) h
-  stays-if s e o false h = o .there
+  stays-acted : (s : Server) (e : Event) → Only (s .rows) → has (holds x) (swept (rowsAt s e)) ≡ true → holds x (rowAt (swept (rowsAt s e)) i) ≡ true
+  stays-acted s e o h =
+      stays-swept (rowsAt s e)
+      (only-cleared (placeOf e) (s .slots) (slotsAfter (placeOf e) e s) (changedRows s e) (only-event e (s .settings) (liveIn (s .slots)) (s .rows) o)) h
+
+  stays-if : (s : Server) (e : Event) → Inv s → Only (s .rows) → (b : Bool) → counts e (codeOf s e) ≡ b → has (holds x) (serverIf b s e .rows) ≡ true
+      → holds x (rowAt (serverIf b s e .rows) i) ≡ true
+  stays-if s e v o true c = rw (acted-rows s e v c) (stays-acted s e o)
+  stays-if s e v o false c = λ h. o .there
 
 pub stays : (s : Server) → Inv s → (e : Event) (i : ℕ) (x : Entry) → holds x (rowAt (s .rows) i) ≡ true → has (holds x) (step s e .rows) ≡ true
     → holds x (rowAt (step s e .rows) i) ≡ true
 unfolding step
-stays s v e i x p h = stays-if x i s e (record { there = p; alone = λ j q. v .rows .once x j i q p }) (counts e (codeOf s e)) h
+stays s v e i x p h = stays-if x i s e v (record { there = p; alone = λ j q. v .rows .once x j i q p }) (counts e (codeOf s e)) refl h

@@ -1,4 +1,4 @@
--- What the settings, the events and the server of a program with octets and 16- and 32-bit numbers keep (document 01, 'Sizes').
+-- What the settings and the server of a program with octets and 16- and 32-bit numbers keep (document 01, 'Sizes').
 -- Assumes nothing.
 use Prim.Native.Nat.{ℕ, _≤_, _<_}
 use mathlib.Core.Path.{_≡_}
@@ -17,9 +17,9 @@ use Rattle.protocol.specs.Messages.{Message}
 use Rattle.protocol.specs.Layouts.{packetOf}
 use Rattle.protocol.specs.WellFormed.{Octets, Id, WellFormed}
 use Rattle.rules.specs.Server.{Settings, Entry, Value, Row, free, used, Request, Slot, Server}
-use Rattle.rules.specs.Events.{Event, addPeer, linkUp, linkDown, packet, poll, set, withdraw, purge}
 
-pub record TypedSettings (c : Settings) : Type 0 where
+-- settings that are accepted
+pub record GoodSettings (c : Settings) : Type 0 where
   pub id : Id idLength (c .id)
   pub protocol-fits : c .protocol < 65536
   pub group-fits : c .group < 65536
@@ -27,17 +27,6 @@ pub record TypedSettings (c : Settings) : Type 0 where
   pub interval-fits : c .interval < 65536
   pub some-factor : 0 < c .factor
   pub factor-fits : c .factor < 65536
-
--- its lists are octets, its times have 32 bits
-abbrev pub TypedEvent : Event → Type 0
-TypedEvent (addPeer k id) = Octets id
-TypedEvent (linkUp k now) = now < 4294967296
-TypedEvent (linkDown k now) = now < 4294967296
-TypedEvent (packet k now p room) = (now < 4294967296) × Octets p
-TypedEvent (poll k now room) = now < 4294967296
-TypedEvent (set key payload) = Octets key × Octets payload
-TypedEvent (withdraw key) = Octets key
-TypedEvent (purge key) = Octets key
 
 -- ---- rows
 pub record GoodEntry (e : Entry) : Type 0 where
@@ -95,7 +84,7 @@ pub record TypedSlot (s : Settings) (x : Slot) : Type 0 where
   pub kept : KeptFor s (x .peer) (x .kept)
 
 pub record TypedServer (s : Server) : Type 0 where
-  pub settings : TypedSettings (s .settings)
+  pub settings : GoodSettings (s .settings)
   pub time : s .time < 4294967296
   pub slots : All (TypedSlot (s .settings)) (s .slots)
   pub rows : All TypedRow (s .rows)

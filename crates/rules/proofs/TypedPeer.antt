@@ -23,13 +23,13 @@ use Rattle.rules.specs.Rows.{behind, rowsOf, nextWaiting}
 use Rattle.rules.specs.Requests.{allTakenIn, rotated}
 use Rattle.rules.specs.Updates.{allSolicited}
 use Rattle.rules.specs.Slots.{passed, toPeer, withKept, withListed, withCursor, withRequests, moved, completed, caSent}
-use Rattle.rules.specs.Sent.{Sent, nothing, packet, again}
+use Rattle.rules.specs.Sent.{Sent, nothing, newPacket, again}
 use Rattle.rules.specs.Alignment.{CaPacket, caPacket, ruleFor, answerFrom, answerTo, answerMore, answerBody, caSentBy, wantedOf, taking, keeping, answering, caSlot}
 use Rattle.rules.specs.Packets.{namesUs, updatedBy, slotOn, rowsOn, sentOn}
-use Rattle.rules.specs.Poll.{caInterval, requestRecord, heldRecord, Due, none, aHello, firstCa, keptCa, aCsus, anUpdate, dueOf, helloOf, firstFlags, firstCaOf, sentBy, slotBy, keptDropped, checked, pollSlot, pollSent}
+use Rattle.rules.specs.Poll.{caInterval, requestRecord, heldRecord, Due, nothingDue, aHello, firstCa, keptCa, aCsus, anUpdate, dueOf, helloOf, firstFlags, firstCaOf, dueSent, dueSlot, keptDropped, checked, pollSlot, pollSent}
 use Rattle.rules.specs.Refusals.{isHello}
 use Rattle.laws.proofs.Bools.{pick-of}
-use Rattle.rules.proofs.Typed.{TypedSettings, Ours, KeptFor}
+use Rattle.rules.proofs.Typed.{GoodSettings, Ours, KeptFor}
 use Rattle.rules.proofs.TypedRows.{TypedRows, replied-all}
 use Rattle.rules.proofs.TypedRecords.{GoodRequests, GoodUpdated, all-updated, all-taken-in, rotated-good, replies-good, all-solicited, summaries-good, waiting-good, requests-good}
 use Rattle.rules.proofs.TypedSlots.{SlotFor, hello-good, check-good, ca-good, timers-kept, kept-kept, listed-kept, cursor-kept, requests-kept, moved-kept, completed-kept}
@@ -48,20 +48,20 @@ meant o = record { good = o .good; protocol = o .protocol; group = o .group; sen
 -- a CA: nothing, a packet of ours, or a kept one
 abbrev GoodCa : Settings → List ℕ → Sent → Type 0
 GoodCa s peer nothing = Unit {0}
-GoodCa s peer (packet m) = Ours s peer m
+GoodCa s peer (newPacket m) = Ours s peer m
 GoodCa s peer (again p) = KeptFor s peer p
 
 abbrev pub GoodSent : Settings → List ℕ → Sent → Type 0
 GoodSent s peer nothing = Unit {0}
-GoodSent s peer (packet m) = Meant s peer m
+GoodSent s peer (newPacket m) = Meant s peer m
 GoodSent s peer (again p) = KeptFor s peer p
 
 any-sent : (s : Settings) (peer : List ℕ) (o : Sent) → GoodCa s peer o → GoodSent s peer o
 any-sent s peer nothing g = g
-any-sent s peer (packet m) g = meant g
+any-sent s peer (newPacket m) g = meant g
 any-sent s peer (again p) g = g
 
-module _ (s : Settings) (peer : List ℕ) (ts : TypedSettings s) (i : Id idLength peer) where
+module _ (s : Settings) (peer : List ℕ) (ts : GoodSettings s) (i : Id idLength peer) where
   id-of : (x : Slot) → SlotFor s peer x → Id idLength (x .peer)
   id-of x g = subst (Id idLength) (sym (g .peer-is)) i
 
@@ -81,7 +81,7 @@ module _ (s : Settings) (peer : List ℕ) (ts : TypedSettings s) (i : Id idLengt
     answer master n u x h g = ours x (answerBody master n u rows x) g (id-of x g) (h, summaries-good rows (answerFrom u x) tr)
 
     ca-sent : (u : CaRule) (c : CaPacket) (x : Slot) → c .seen .head .number .0 < 4294967296 → SlotFor s peer x → GoodCa s peer (caSentBy u s rows c x)
-    ca-sent links.refuse c x h g = tt
+    ca-sent links.refuseCa c x h g = tt
     ca-sent links.becomeSlave c x h g = answer false (c .seen .head .number) links.becomeSlave x h g
     ca-sent links.becomeMaster c x h g = answer true (nextCa (x .link .number)) links.becomeMaster x (omega arith) g
     ca-sent links.repeat c x h g = g .kept
@@ -97,7 +97,7 @@ module _ (s : Settings) (peer : List ℕ) (ts : TypedSettings s) (i : Id idLengt
 
     keeping-kept : (o : Sent) (now to : ℕ) (x : Slot) → GoodCa s peer o → SlotFor s peer x → SlotFor s peer (keeping o now to x)
     keeping-kept nothing now to x h g = g
-    keeping-kept (packet m) now to x h g =
+    keeping-kept (newPacket m) now to x h g =
         ca-timer now (withKept (packetOf m) (withListed to x))
         (kept-kept s peer (packetOf m) (withListed to x) (inr (m, (refl, h))) (listed-kept s peer to x g))
     keeping-kept (again p) now to x h g = ca-timer now x g
@@ -117,7 +117,7 @@ module _ (s : Settings) (peer : List ℕ) (ts : TypedSettings s) (i : Id idLengt
           (keeping-kept (caSentBy u s rows c x) now (answerTo rows (answerFrom u x)) (taking u rows c x) (ca-sent u c x h g) (taking-kept u))
 
       ca-slot : (u : CaRule) → SlotFor s peer (caSlot u s now rows c x)
-      ca-slot links.refuse = g
+      ca-slot links.refuseCa = g
       ca-slot links.becomeSlave = answering-kept links.becomeSlave
       ca-slot links.becomeMaster = answering-kept links.becomeMaster
       ca-slot links.repeat = ca-timer now x g
@@ -167,12 +167,12 @@ module _ (s : Settings) (peer : List ℕ) (ts : TypedSettings s) (i : Id idLengt
     sent-on (csuRequest rs) live k m x h g =
         let u = updated live k rs [] h tt in
         let l = map summaryOf (updatedBy live k rs rows [] .replies) in
-        pick-of (GoodSent s peer) (isEmpty l) nothing (packet (toPeer s x (csuReply l))) tt
+        pick-of (GoodSent s peer) (isEmpty l) nothing (newPacket (toPeer s x (csuReply l))) tt
         (meant (ours x (csuReply l) g (id-of x g) (replies-good (updatedBy live k rs rows [] .replies) (u .replies) (u .few))))
     sent-on (csuReply rs) live k m x h g = tt
     sent-on (csus rs) live k m x h g =
         let l = allSolicited rows rs in
-        pick-of (GoodSent s peer) (isEmpty l) nothing (packet (toPeer s x (csuRequest l))) tt
+        pick-of (GoodSent s peer) (isEmpty l) nothing (newPacket (toPeer s x (csuRequest l))) tt
         (meant (ours x (csuRequest l) g (id-of x g) (all-solicited rows rs tr h)))
     sent-on (hello t f ids) live k m x h g = tt
 
@@ -209,8 +209,8 @@ module _ (s : Settings) (peer : List ℕ) (ts : TypedSettings s) (i : Id idLengt
       receiver = pick-of (λ r. (r ≡ peer) ⊎ ((true ≡ true) × (r ≡ []))) (hearsPeer (x .link .hello)) (x .peer) [] (inl (g .peer-is)) (inr (refl, refl));
     }
 
-    due-sent : (d : Due) (k : ℕ) (x : Slot) → SlotFor s peer x → GoodSent s peer (sentBy d s rows k x)
-    due-sent none k x g = tt
+    due-sent : (d : Due) (k : ℕ) (x : Slot) → SlotFor s peer x → GoodSent s peer (dueSent d s rows k x)
+    due-sent nothingDue k x g = tt
     due-sent aHello k x g = our-hello x g
     due-sent firstCa k x g = meant (first-ca x g)
     due-sent keptCa k x g = g .kept
@@ -218,8 +218,8 @@ module _ (s : Settings) (peer : List ℕ) (ts : TypedSettings s) (i : Id idLengt
     due-sent anUpdate k x g =
         meant (ours x (csuRequest (rowsOf heldRecord rows (nextWaiting rows k (x .cursor)))) g (id-of x g) (waiting-good rows k (x .cursor) tr))
 
-    due-slot : (d : Due) (now k : ℕ) (x : Slot) → SlotFor s peer x → SlotFor s peer (slotBy d s now rows k x)
-    due-slot none now k x g = g
+    due-slot : (d : Due) (now k : ℕ) (x : Slot) → SlotFor s peer x → SlotFor s peer (dueSlot d s now rows k x)
+    due-slot nothingDue now k x g = g
     due-slot aHello now k x g =
         timers-kept s peer (record { hello = At now; ca = x .timers .ca; csus = x .timers .csus; update = x .timers .update }) x g
     due-slot firstCa now k x g =

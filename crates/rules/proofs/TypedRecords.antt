@@ -18,8 +18,8 @@ use Rattle.protocol.specs.Sizes.{idLength, recordsMost}
 use Rattle.protocol.specs.Numbers.{newer}
 use Rattle.protocol.specs.Messages.{CsaRecord, summaryOf}
 use Rattle.protocol.specs.WellFormed.{GoodRecord, GoodRecords}
-use Rattle.rules.specs.Server.{rowsMost, requestsMost, Entry, Value, Row, free, used, isUsed, waitsFor, rowAt, Request}
-use Rattle.rules.specs.Rows.{next, used1, rowsOf, nextUsed, nextWaiting}
+use Rattle.rules.specs.Server.{holds, rowsMost, requestsMost, Entry, Value, Row, free, used, isUsed, waitsFor, rowAt, Request}
+use Rattle.rules.specs.Rows.{entryRow, next, used1, rowsOf, nextUsed, nextWaiting}
 use Rattle.rules.specs.Requests.{entryOf, asks, upToDate, Wanted, raised, join, takenIn, allTakenIn, acknowledged, rotated}
 use Rattle.rules.specs.Updates.{hopsMost, UpdateRule, null, purgeAbsent, full, stored, equal, older, updateRule, requestsBy, isAcknowledged, Updated, byRule, allUpdated, recordOf, nullRecord, solicitedOf, solicited, allSolicited}
 use Rattle.rules.specs.Alignment.{summaryRecord}
@@ -62,7 +62,7 @@ pub all-taken-in : (k : Kind) (rows : List Row) (rs : List CsaRecord) (w : Wante
 all-taken-in k rows [] w a g = g
 all-taken-in k rows (r ∷ rs) w a g =
     all-taken-in k rows rs (takenIn rows r w) (a .1)
-    (pick-of GoodWanted (has (upToDate (entryOf r) (r .number)) rows) w (join (entryOf r) (r .number) w) g
+    (pick-of GoodWanted (upToDate (r .number) (entryRow (entryOf r) rows)) w (join (entryOf r) (r .number) w) g
     (join-good (entryOf r) (r .number) w (entry-of k r (a .0)) (number-of k r (a .0)) g))
 
 pub rotated-good : (qs : List Request) → GoodRequests qs → GoodRequests (rotated qs)
@@ -170,11 +170,13 @@ replies-good rs a l = record {
 
 solicited-good : (rows : List Row) → TypedRows rows → (r : CsaRecord) → GoodRecord idLength Csus r → Update (solicited rows r)
 solicited-good rows g r h =
-    by (find (upToDate (entryOf r) (r .number)) free rows) (all-find TypedRow (upToDate (entryOf r) (r .number)) free rows tt g)
+    by (entryRow (entryOf r) rows) (all-find TypedRow (holds (entryOf r)) free rows tt g)
   where
     by : (x : Row) → TypedRow x → Update (solicitedOf r x)
     by free t = null-good r (entry-of Csus r h) (number-of Csus r h)
-    by (used e v m) t = held hopsMost e v (omega arith) (omega arith) (t .entry) (t .value)
+    by (used e v m) t =
+        pick-of Update (newer (r .number) (v .number)) (nullRecord r) (recordOf hopsMost e v) (null-good r (entry-of Csus r h) (number-of Csus r h))
+        (held hopsMost e v (omega arith) (omega arith) (t .entry) (t .value))
 
 pub all-solicited : (rows : List Row) (rs : List CsaRecord) → TypedRows rows → GoodRecords idLength Csus rs → GoodRecords idLength CsuRequest (allSolicited rows rs)
 all-solicited rows rs g h = record {

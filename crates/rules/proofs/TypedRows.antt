@@ -17,44 +17,44 @@ use Rattle.protocol.specs.declared.CsaNumber.{CsaNumber}
 use Rattle.protocol.specs.declared.Kind.the-variants.{CsuRequest}
 use Rattle.protocol.specs.declared.Step.the-variants.{Number, Spent}
 use Rattle.protocol.specs.Sizes.{idLength, payloadMost}
-use Rattle.protocol.specs.Numbers.{csa, purged, spent, newer, nextCsa}
+use Rattle.protocol.specs.Numbers.{csaNumber, purged, spent, newer, nextCsa}
 use Rattle.protocol.specs.Messages.{CsaRecord}
 use Rattle.protocol.specs.WellFormed.{Octets, GoodRecord}
 use Rattle.rules.specs.Server.{Entry, Value, Row, free, used, isFree, holds}
-use Rattle.rules.specs.Rows.{isPurged, anySlot, unmarked, spread, filled, sweptRow, swept, clearedIf}
+use Rattle.rules.specs.Rows.{entryRow, unmarked, spread, filled, toFree, sweptRow, swept, sweptIf, clearedIf}
 use Rattle.rules.specs.Requests.{entryOf}
-use Rattle.rules.specs.Updates.{hopsMost, value, stepped, changedRow, newRow, setRows, withdrawRows, purgedRow, purgeRows, UpdateRule, null, purgeAbsent, full, stored, equal, older, valueOf, rowFor, renewed, owed, rowsBy, replied, allReplied}
-use Rattle.rules.specs.Refusals.{firstRow, rowSpent}
+use Rattle.rules.specs.Updates.{hopsMost, value, stepped, changedRow, newRow, setRows, withdrawRows, purgedRow, purgeRows, UpdateRule, null, purgeAbsent, full, stored, equal, older, valueOf, rowFor, renewed, waitsAgain, rowsBy, replied, allReplied}
+use Rattle.rules.specs.Refusals.{rowSpent}
 use Rattle.laws.proofs.Each.{all-map, all-change}
 use Rattle.laws.proofs.Bools.{pick-of}
 use Rattle.rules.proofs.Typed.{GoodEntry, GoodNumber, GoodRow, TypedRow}
 
 -- ---- CSA numbers
 -- a number that is not negative is not the reserved one
-positive : (a : ℕ) → a < 2147483648 → GoodNumber (csa (pos a))
+positive : (a : ℕ) → a < 2147483648 → GoodNumber (csaNumber (pos a))
 positive a h = record { fits = record { sfits = omega arith }; not-reserved = λ e. let f = ap (λ n. n .0) e in let z : _≡_ {A = ℕ} 0 1 = cc in omega arith }
 
-negative : (a : ℕ) → a < 2147483647 → GoodNumber (csa (negsuc a))
+negative : (a : ℕ) → a < 2147483647 → GoodNumber (csaNumber (negsuc a))
 negative a h = record {
   fits = record { sfits = omega arith };
   not-reserved = λ e. let f = ap (λ n. n .0) e in let z : a ≡ 2147483647 = cc in omega arith;
 }
 
-above-reserved : (a : ℕ) → GoodNumber (csa (negsuc a)) → a < 2147483647
+above-reserved : (a : ℕ) → GoodNumber (csaNumber (negsuc a)) → a < 2147483647
 above-reserved a g =
     let f = g .fits .sfits in
-    let n : a ≡ 2147483647 → ⊥ = λ e. g .not-reserved (ap (λ i. csa (negsuc i)) e) in
+    let n : a ≡ 2147483647 → ⊥ = λ e. g .not-reserved (ap (λ i. csaNumber (negsuc i)) e) in
     omega arith
 
 step-up : (b : ℕ) → negsuc (suc b) +ℤ pos 1 ≡ negsuc b
 step-up b = rw (lt-ltb 1 (suc (suc b)) (omega arith)) (ap negsuc (omega arith))
 
-next-good : (z : ℤ) → GoodNumber (csa z) → leZ (pos 2147483646) z ≡ false → GoodNumber (csa (z +ℤ pos 1))
+next-good : (z : ℤ) → GoodNumber (csaNumber z) → leZ (pos 2147483646) z ≡ false → GoodNumber (csaNumber (z +ℤ pos 1))
 next-good (pos a) g e = positive (a + 1) (omega (arith, leb-false 2147483646 a e))
 next-good (negsuc zero) g e = positive 0 (omega arith)
 next-good (negsuc (suc b)) g e = rw (step-up b) (negative b (omega (arith, above-reserved (suc b) g)))
 
-next-not-purged : (z : ℤ) → leZ (pos 2147483646) z ≡ false → csa (z +ℤ pos 1) ≡ purged → ⊥
+next-not-purged : (z : ℤ) → leZ (pos 2147483646) z ≡ false → csaNumber (z +ℤ pos 1) ≡ purged → ⊥
 next-not-purged (pos a) e h =
     let f = ap (λ n. n .0) h in
     let i : a + 1 ≡ 2147483647 = cc in
@@ -67,12 +67,12 @@ next-not-purged (negsuc (suc b)) e h =
 
 stepped-good : (n : CsaNumber) → GoodNumber n → GoodNumber (stepped n (nextCsa n))
 stepped-good n g = by (spent n) refl where
-  by : (b : Bool) → spent n ≡ b → GoodNumber (stepped n (pick b Spent (Number (csa (n .0 +ℤ pos 1)))))
+  by : (b : Bool) → spent n ≡ b → GoodNumber (stepped n (pick b Spent (Number (csaNumber (n .0 +ℤ pos 1)))))
   by true e = g
   by false e = next-good (n .0) g e
 
 stepped-not-purged : (n : CsaNumber) → spent n ≡ false → stepped n (nextCsa n) ≡ purged → ⊥
-stepped-not-purged n e h = next-not-purged (n .0) e (subst (λ (b : Bool). stepped n (pick b Spent (Number (csa (n .0 +ℤ pos 1)))) ≡ purged) e h)
+stepped-not-purged n e h = next-not-purged (n .0) e (subst (λ (b : Bool). stepped n (pick b Spent (Number (csaNumber (n .0 +ℤ pos 1)))) ≡ purged) e h)
 
 -- ---- a row
 on-false : (k : ℕ) (m : ℕ → Bool) (j : ℕ) → on k false m j ≡ true → m j ≡ true
@@ -89,8 +89,7 @@ unmarked-typed k free g = tt
 unmarked-typed k (used e v m) g = unmarked-good k e v m g
 
 swept-typed : (r : Row) → TypedRow r → TypedRow (sweptRow r)
-swept-typed free g = tt
-swept-typed (used e v m) g = pick-of TypedRow (isPurged (v .number) && not (anySlot m)) free (used e v m) tt g
+swept-typed r g = pick-of TypedRow (toFree r) free r tt g
 
 -- a change of ours
 changed-good : (live : ℕ → Bool) (payload : List ℕ) (e : Entry) (v : Value) (m : ℕ → Bool) → length payload ≤ payloadMost → Octets payload
@@ -175,9 +174,9 @@ renewed-typed : (live : ℕ → Bool) (k : ℕ) (c : CsaRecord) → Update c →
 renewed-typed live k c u free g = tt
 renewed-typed live k c u (used e v m) g = stored-good live k c e u (g .entry)
 
-owed-typed : (k : ℕ) (r : Row) → TypedRow r → TypedRow (owed k r)
-owed-typed k free g = tt
-owed-typed k (used e v m) g = record { entry = g .entry; value = g .value; hops-left = by (ltb 0 (v .remaining)) refl } where
+waitsAgain-typed : (k : ℕ) (r : Row) → TypedRow r → TypedRow (waitsAgain k r)
+waitsAgain-typed k free g = tt
+waitsAgain-typed k (used e v m) g = record { entry = g .entry; value = g .value; hops-left = by (ltb 0 (v .remaining)) refl } where
   by : (b : Bool) → ltb 0 (v .remaining) ≡ b → (j : ℕ) → pick b (on k true m) m j ≡ true → 0 < v .remaining
   by true e j h = ltb-true 0 (v .remaining) e
   by false e j h = g .hops-left j h
@@ -201,15 +200,19 @@ filling r t rows g = changing isFree (λ x. r) (λ x h. t) rows g
 pub swept-all : (rows : List Row) → TypedRows rows → TypedRows (swept rows)
 swept-all rows g = all-map TypedRow TypedRow sweptRow swept-typed rows g
 
+pub swept-if : (b : Bool) (rows : List Row) → TypedRows rows → TypedRows (sweptIf b rows)
+swept-if true rows g = swept-all rows g
+swept-if false rows g = g
+
 pub cleared-all : (b : Bool) (k : ℕ) (rows : List Row) → TypedRows rows → TypedRows (clearedIf b k rows)
 cleared-all true k rows g = all-map TypedRow TypedRow (unmarked k) (unmarked-typed k) rows g
 cleared-all false k rows g = g
 
 pub set-all : (live : ℕ → Bool) (e : Entry) (payload : List ℕ) (rows : List Row) → GoodEntry e → length payload ≤ payloadMost → Octets payload
-    → rowSpent (firstRow e rows) ≡ false → TypedRows rows → TypedRows (setRows live e payload rows)
+    → rowSpent (entryRow e rows) ≡ false → TypedRows rows → TypedRows (setRows live e payload rows)
 set-all live e payload rows ge l o n g =
     pick-of TypedRows (has (holds e) rows) (change (holds e) (changedRow live payload) rows) (filled (newRow live e payload) rows)
-    (all-change TypedRow (holds e) (changedRow live payload) free rows (set-typed live payload l o (firstRow e rows) n) g)
+    (all-change TypedRow (holds e) (changedRow live payload) free rows (set-typed live payload l o (entryRow e rows) n) g)
     (filling (newRow live e payload) (new-typed live e payload ge l o) rows g)
 
 pub withdraw-all : (live : ℕ → Bool) (e : Entry) (rows : List Row) → TypedRows rows → TypedRows (withdrawRows live e rows)
@@ -227,7 +230,7 @@ rows-by stored live k r rows u g =
     (changing (holds (entryOf r)) (renewed live k r) (renewed-typed live k r u) rows g)
     (filling (rowFor live k r) (stored-good live k r (entryOf r) u (entry-good r u)) rows g)
 rows-by equal live k r rows u g = changing (holds (entryOf r)) (unmarked k) (unmarked-typed k) rows g
-rows-by older live k r rows u g = changing (holds (entryOf r)) (owed k) (owed-typed k) rows g
+rows-by older live k r rows u g = changing (holds (entryOf r)) (waitsAgain k) (waitsAgain-typed k) rows g
 
 pub replied-all : (k : ℕ) (rs : List CsaRecord) (rows : List Row) → TypedRows rows → TypedRows (allReplied k rs rows)
 replied-all k [] rows g = g

@@ -23,31 +23,31 @@ use Rattle.protocol.proofs.ReadWellFormed.{read-well-formed}
 use Rattle.rules.specs.Server.{slotsMost, rowsMost, Settings, settingsCode, Row, free, Slot, freshSlot, Server, fresh, slotAt}
 use Rattle.rules.specs.Links.{isDown, enters, upMove, downMove, malformedMove}
 use Rattle.rules.specs.Slots.{moved, helloSent}
-use Rattle.rules.specs.Refusals.{noPeer, early, noRoom, linkIsDown, pollCode, isMalformedHello, isPeer, keyGood, payloadGood, ownEntry}
-use Rattle.rules.specs.Events.{Event, addPeer, linkUp, linkDown, packet, poll, set, withdraw, purge, codeOf, counts, Place, inSlot, nowhere, placeOf, liveIn, alignmentAt, peerSlot, upSlot, downSlot, readSlot, slotAfter, slotsAfter, readRows, rowsChanged, cleared, timeAfter, acted, serverIf, step, run}
-use Rattle.rules.proofs.Stated.{both, none-stated, slotMissing, peerBad, link-codes, poll-codes, add-peer-codes, set-codes}
-use Rattle.rules.proofs.StatedPacket.{packet-codes}
+use Rattle.rules.specs.Refusals.{isPeer, ownKeyGood, ownPayloadGood, ownEntry}
+use Rattle.rules.specs.Events.{Event, addPeer, linkUp, linkDown, packet, poll, set, withdraw, purge, codeOf, counts, Place, inSlot, nowhere, placeOf, liveIn, alignmentAt, peerSlot, upSlot, downSlot, readSlot, slotAfter, slotsAfter, readRows, rowsChanged, emptiesIn, entersAt, cleared, changesRows, timeAfter, acted, serverIf, step, run}
+use Rattle.rules.proofs.Stated.{both, peerBad, link-codes, poll-codes, add-peer-codes, set-codes}
+use Rattle.rules.proofs.CodeTold.{in-use, packet-in-use}
 use Rattle.laws.proofs.Each.{all-at, all-set, all-replicate}
 use Rattle.laws.proofs.Bools.{pick-of}
-use Rattle.rules.proofs.Typed.{TypedSettings, TypedEvent, TypedRow, TypedSlot, TypedServer}
-use Rattle.rules.proofs.TypedRows.{TypedRows, swept-all, cleared-all, set-all, withdraw-all, purge-all}
+use Rattle.rules.proofs.Typed.{GoodSettings, TypedRow, TypedSlot, TypedServer}
+use Rattle.rules.specs.Typed.{TypedSettings, TypedEvent}
+use Rattle.rules.proofs.TypedRows.{TypedRows, swept-if, cleared-all, set-all, withdraw-all, purge-all}
 use Rattle.rules.proofs.TypedSlots.{SlotFor, slot-for, typed-for, other-good, up-good, timers-kept, moved-kept}
 use Rattle.rules.proofs.TypedPeer.{slot-on, rows-on, poll-slot}
 
 -- ---- a fresh server
 -- settings that are accepted
-pub accepted-settings : (c : Settings) → settingsCode c ≡ 0 → Octets (c .id) → c .protocol < 65536 → c .group < 65536 → c .interval < 65536
-    → c .factor < 65536 → TypedSettings c
-accepted-settings c e o p g i f =
+pub accepted-settings : (c : Settings) → settingsCode c ≡ 0 → TypedSettings c → GoodSettings c
+accepted-settings c e t =
     let h = by (eqb (length (c .id)) idLength) (eqb (c .interval) 0) (eqb (c .factor) 0) e in
     record {
-      id = record { size = eqb-true (length (c .id)) idLength (h .0); octets = o };
-      protocol-fits = p;
-      group-fits = g;
+      id = record { size = eqb-true (length (c .id)) idLength (h .0); octets = t .id-octets };
+      protocol-fits = t .protocol-fits;
+      group-fits = t .group-fits;
       some-interval = some (c .interval) (h .1);
-      interval-fits = i;
+      interval-fits = t .interval-fits;
       some-factor = some (c .factor) (h .2);
-      factor-fits = f;
+      factor-fits = t .factor-fits;
     }
   where
     by : (a b d : Bool) → _≡_ {A = ℕ} (pick (not a || (b || d)) 17 0) 0 → (a ≡ true) × (b ≡ false) × (d ≡ false)
@@ -67,7 +67,7 @@ fresh-slot s = record {
   kept = inl refl;
 }
 
-pub typed-fresh : (c : Settings) → TypedSettings c → TypedServer (fresh c)
+pub typed-fresh : (c : Settings) → GoodSettings c → TypedServer (fresh c)
 typed-fresh c h = record {
   settings = h;
   time = omega arith;
@@ -75,29 +75,7 @@ typed-fresh c h = record {
   rows = all-replicate TypedRow rowsMost free tt;
 }
 
--- ---- the slot of an event that counts is in use
-present : (a b : Bool) → (a || not b) ≡ false → b ≡ true
-present true b e = absurd (false≢true (sym e))
-present false true e = refl
-present false false e = absurd (false≢true (sym e))
-
 module _ (s : Server) where
-  pub in-use : (k : ℕ) → slotMissing s k ≡ false → slotAt s k .used ≡ true
-  in-use k e = present (not (ltb k slotsMost)) (slotAt s k .used) e
-
-  pub poll-in-use : (k now room : ℕ) → pollCode s k now room ≡ 0 → slotAt s k .used ≡ true
-  poll-in-use k now room e = in-use k (none-stated (noPeer s k ∷ early s now ∷ noRoom room ∷ linkIsDown s k ∷ []) refl .0 e .0)
-
-  pub packet-in-use : (k now : ℕ) (p : List ℕ) (room : ℕ) → counts (packet k now p room) (codeOf s (packet k now p room)) ≡ true → slotAt s k .used ≡ true
-  packet-in-use k now p room e =
-      by (eqb (codeOf s (packet k now p room)) 0) refl (eqb (codeOf s (packet k now p room)) 10) refl (isMalformedHello p (readPacket idLength p)) e
-    where
-      by : (a : Bool) → eqb (codeOf s (packet k now p room)) 0 ≡ a → (b : Bool) → eqb (codeOf s (packet k now p room)) 10 ≡ b → (c : Bool)
-          → (a || (b && c)) ≡ true → slotAt s k .used ≡ true
-      by true f b g c h = poll-in-use k now room (packet-codes s k now p room .code-0 .0 (eqb-true (codeOf s (packet k now p room)) 0 f) .0)
-      by false f true g c h = poll-in-use k now room (packet-codes s k now p room .code-10 .0 (eqb-true (codeOf s (packet k now p room)) 10 g) .0)
-      by false f false g c h = absurd (false≢true h)
-
   module _ (ts : TypedServer s) where
     pub slot-typed : (k : ℕ) → TypedSlot (s .settings) (slotAt s k)
     slot-typed k = all-at (TypedSlot (s .settings)) (s .slots) freshSlot (fresh-slot (s .settings)) (ts .slots) k
@@ -143,21 +121,21 @@ module _ (s : Server) where
         let x : Slot = slotAt s k in
         let l = upMove (x .link) in
         let g = moved-kept (s .settings) (x .peer) l x (up-good (x .link) (slot-here k .link)) (slot-here k) in
-        put k (upSlot x) (in-use k (link-codes s k now .0 .code-0 .0 (eqb-true (codeOf s (linkUp k now)) 0 c) .0))
+        put k (upSlot x) (in-use s k (link-codes s k now .0 .code-0 .0 (eqb-true (codeOf s (linkUp k now)) 0 c) .0))
         (pick-of (SlotFor (s .settings) (x .peer)) (isDown (x .link .hello)) (helloSent Never (moved l x)) x
         (timers-kept (s .settings) (x .peer)
         (record { hello = Never; ca = moved l x .timers .ca; csus = moved l x .timers .csus; update = moved l x .timers .update }) (moved l x) g)
         (slot-here k))
     slots-typed (linkDown k now) t c =
         let x : Slot = slotAt s k in
-        put k (downSlot x) (in-use k (link-codes s k now .1 .code-0 .0 (eqb-true (codeOf s (linkDown k now)) 0 c) .0))
+        put k (downSlot x) (in-use s k (link-codes s k now .1 .code-0 .0 (eqb-true (codeOf s (linkDown k now)) 0 c) .0))
         (moved-kept (s .settings) (x .peer) (downMove (x .link)) x (other-good helloDown (x .link) (slot-here k .link)) (slot-here k))
     slots-typed (packet k now p room) t c =
-        let u = packet-in-use k now p room c in
+        let u = packet-in-use s k now p room c in
         put k (readSlot (readPacket idLength p) (s .settings) (liveIn (s .slots)) k now (s .rows) (slotAt s k)) u
         (read-slot k now (readPacket idLength p) (λ m e. read-well-formed idLength p m (t .1) e) u)
     slots-typed (poll k now room) t c =
-        let u = in-use k (poll-codes s k now room .code-0 .0 (eqb-true (codeOf s (poll k now room)) 0 c) .0) in
+        let u = in-use s k (poll-codes s k now room .code-0 .0 (eqb-true (codeOf s (poll k now room)) 0 c) .0) in
         put k (slotAfter (poll k now room) (s .settings) (liveIn (s .slots)) (s .rows) (slotAt s k)) u
         (poll-slot (s .settings) (slotAt s k .peer) (ts .settings) (slot-typed k .peer u) (s .rows) (ts .rows) now k (slotAt s k) (slot-here k))
     slots-typed (set key payload) t c = ts .slots
@@ -172,10 +150,10 @@ module _ (s : Server) where
     read-rows k (message m) w u =
         rows-on (s .settings) (slotAt s k .peer) (ts .settings) (slot-typed k .peer u) (s .rows) (ts .rows) (m .body) (liveIn (s .slots)) k (w m refl .body)
 
-    lengths-good : (key payload : List ℕ) → not (keyGood key && payloadGood payload) ≡ false
+    lengths-good : (key payload : List ℕ) → not (ownKeyGood key && ownPayloadGood payload) ≡ false
         → (0 < length key) × (length key ≤ keyMost) × (length payload ≤ payloadMost)
     lengths-good key payload e =
-        let f = both (keyGood key) (payloadGood payload) (not-false (keyGood key && payloadGood payload) e) in
+        let f = both (ownKeyGood key) (ownPayloadGood payload) (not-false (ownKeyGood key && ownPayloadGood payload) e) in
         let g = both (ltb 0 (length key)) (leb (length key) keyMost) (f .0) in
         let h = both (ltb 0 (length payload)) (leb (length payload) payloadMost) (f .1) in
         (ltb-true 0 (length key) (g .0), leb-true (length key) keyMost (g .1), leb-true (length payload) payloadMost (h .1))
@@ -185,7 +163,7 @@ module _ (s : Server) where
     rows-typed (linkUp k now) t c = ts .rows
     rows-typed (linkDown k now) t c = ts .rows
     rows-typed (packet k now p room) t c =
-        read-rows k (readPacket idLength p) (λ m e. read-well-formed idLength p m (t .1) e) (packet-in-use k now p room c)
+        read-rows k (readPacket idLength p) (λ m e. read-well-formed idLength p m (t .1) e) (packet-in-use s k now p room c)
     rows-typed (poll k now room) t c = ts .rows
     rows-typed (set key payload) t c =
         let f = set-codes s key payload .code-0 .0 (eqb-true (codeOf s (set key payload)) 0 c) in
@@ -217,7 +195,8 @@ module _ (s : Server) where
       slots = slots-typed e t c;
       rows = let after = slotsAfter (placeOf e) e s in
           let changed = rowsChanged e (s .settings) (liveIn (s .slots)) (s .rows) in
-          swept-all (cleared (placeOf e) (s .slots) after changed) (cleared-typed (placeOf e) after changed (rows-typed e t c));
+          swept-if (changesRows e || entersAt (emptiesIn e) (s .slots) after) (cleared (emptiesIn e) (s .slots) after changed)
+          (cleared-typed (emptiesIn e) after changed (rows-typed e t c));
     }
 
 pub typed-step : (s : Server) (e : Event) → TypedEvent e → TypedServer s → TypedServer (step s e)

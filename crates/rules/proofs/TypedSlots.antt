@@ -68,7 +68,7 @@ pub check-good : (time : ℕ) (l : Link) → GoodLink l → GoodLink (checkMove 
 check-good time l g = pick-of GoodLink (hearsPeer (l .hello) && stale (l .interval) (l .factor) (l .heard) time) (toOther Waiting l) l (other-good Waiting l g) g
 
 pub ca-good : (u : CaRule) (c : links.CaIn) (more : Bool) (l : Link) → c .head .number .0 < 4294967296 → GoodLink l → GoodLink (caMove u c more l)
-ca-good links.refuse c more l h g = g
+ca-good links.refuseCa c more l h g = g
 ca-good links.becomeSlave c more l h g = record { number = h; last = h }
 ca-good links.becomeMaster c more l h g = record { number = next-fits (l .number); last = h }
 ca-good links.repeat c more l h g = g

@@ -9,16 +9,16 @@ use Rattle.laws.proofs.Bools.{and-true}
 use Rattle.laws.proofs.Cells.{has-true}
 use Rattle.rules.specs.Server.{Entry, Row, free, holds, rowAt}
 use Rattle.rules.specs.Server as server
-use Rattle.rules.specs.History.{Known, waitsFor}
+use Rattle.rules.specs.History.{Known, entryWaits}
 use Rattle.rules.specs.Demand3.{rowWaits}
 use Rattle.rules.proofs.Relation.{Sim}
 use Rattle.rules.proofs.RowSim.{sim-has}
 
-pub waits : (rows : List Row) (es : List Known) → Sim rows es → (k : ℕ) (e : Entry) → has (rowWaits k e) rows ≡ has (waitsFor k e) es
+pub waits : (rows : List Row) (es : List Known) → Sim rows es → (k : ℕ) (e : Entry) → has (rowWaits k e) rows ≡ has (entryWaits k e) es
 waits rows es m k e = sim-has (rowWaits k e) refl rows es m
 
 -- an entry that waits in the history has a row, and the row waits
-pub waiting-row : (rows : List Row) (es : List Known) → Sim rows es → (k : ℕ) (e : Entry) → has (waitsFor k e) es ≡ true
+pub waiting-row : (rows : List Row) (es : List Known) → Sim rows es → (k : ℕ) (e : Entry) → has (entryWaits k e) es ≡ true
     → (i : ℕ) × (holds e (rowAt rows i) ≡ true) × (server.waitsFor k (rowAt rows i) ≡ true)
 waiting-row rows es m k e t =
     let f = has-true free (rowWaits k e) rows (waits rows es m k e ∙ t) in

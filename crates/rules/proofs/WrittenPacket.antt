@@ -17,29 +17,16 @@ use Rattle.protocol.specs.Reading.{Reading, refused, malformed, message, readPa
 use Rattle.protocol.specs.WellFormed.{Octets, Id, WellFormed}
 use Rattle.protocol.proofs.PacketBack.{read-back, packet-octets, packet-length, packet-least}
 use Rattle.protocol.proofs.ReadWellFormed.{read-well-formed}
-use Rattle.rules.specs.Server.{Settings, Server, fresh, slotAt}
-use Rattle.rules.specs.Refusals.{isHello}
-use Rattle.rules.specs.Sent.{Sent, nothing, packet as sentPacket, again, octetsOf}
+use Rattle.rules.specs.Server.{Settings, settingsCode, Server, fresh, slotAt}
+use Rattle.rules.specs.Sent.{Sent, nothing, newPacket as sentPacket, again, octetsOf}
 use Rattle.rules.specs.Events.{Event, addPeer, linkUp, linkDown, packet, poll, set, withdraw, purge, codeOf, counts, inSlot, placeOf, liveIn, readSent, sentBy, sentIf, writtenAt, run}
+use Rattle.rules.specs.Written.{WrotePacket}
 use Rattle.rules.proofs.Stated.{poll-codes}
-use Rattle.rules.proofs.Typed.{TypedSettings, TypedEvent, TypedServer}
+use Rattle.rules.proofs.Typed.{TypedServer}
+use Rattle.rules.specs.Typed.{TypedSettings, TypedEvent}
 use Rattle.rules.proofs.TypedPeer.{Meant, meant, GoodSent, sent-on, poll-sent}
-use Rattle.rules.proofs.TypedRun.{packet-in-use, in-use, slot-typed, slot-here, typed-fresh, typed-run}
-
-pub record WrotePacket (s : Server) (e : Event) : Type 0 where
-  pub slot : ℕ
-  pub place : placeOf e ≡ inSlot slot
-  pub meaning : Message
-  pub octets : writtenAt s e ≡ packetOf meaning
-  pub good : WellFormed idLength meaning
-  pub read : readPacket idLength (writtenAt s e) ≡ message meaning
-  pub least : 8 ≤ length (writtenAt s e)
-  pub size : length (writtenAt s e) ≤ 284
-  pub small : Octets (writtenAt s e)
-  pub protocol : meaning .protocol ≡ s .settings .protocol
-  pub group : meaning .group ≡ s .settings .group
-  pub sender : meaning .sender ≡ s .settings .id
-  pub receiver : (meaning .receiver ≡ slotAt s slot .peer) ⊎ ((isHello (meaning .body) ≡ true) × (meaning .receiver ≡ []))
+use Rattle.rules.proofs.CodeTold.{packet-in-use, in-use}
+use Rattle.rules.proofs.TypedRun.{slot-typed, slot-here, accepted-settings, typed-fresh, typed-run}
 
 -- a packet that is meant for a peer
 record Wrote (s : Settings) (peer p : List ℕ) : Type 0 where
@@ -52,7 +39,7 @@ wrote s peer nothing g = inl refl
 wrote s peer (sentPacket m) g = inr record { meaning = m; octets = refl; told = g }
 wrote s peer (again p) g = ⊎-elim (λ e. inl e) (λ f. inr record { meaning = f .0; octets = f .1 .0; told = meant (f .1 .1) }) g
 
-as-packet : (s : Server) (e : Event) (k : ℕ) → placeOf e ≡ inSlot k → Wrote (s .settings) (slotAt s k .peer) (writtenAt s e) → WrotePacket s e
+as-packet : (s : Server) (e : Event) (k : ℕ) → placeOf e ≡ inSlot k → Wrote (s .settings) (slotAt s k .peer) (writtenAt s e) → WrotePacket s e (writtenAt s e)
 as-packet s e k at w =
     let m : Message = w .meaning in
     let good : WellFormed idLength m = w .told .good in
@@ -103,7 +90,7 @@ module _ (s : Server) (ts : TypedServer s) where
     by true = ap octetsOf n
     by false = refl
 
-  at-event : (e : Event) → TypedEvent e → (writtenAt s e ≡ []) ⊎ WrotePacket s e
+  at-event : (e : Event) → TypedEvent e → (writtenAt s e ≡ []) ⊎ WrotePacket s e (writtenAt s e)
   at-event (addPeer k id) t = inl (silent (addPeer k id) refl)
   at-event (linkUp k now) t = inl (silent (linkUp k now) refl)
   at-event (linkDown k now) t = inl (silent (linkDown k now) refl)
@@ -119,10 +106,10 @@ module _ (s : Server) (ts : TypedServer s) where
   at-event (withdraw key) t = inl (silent (withdraw key) refl)
   at-event (purge key) t = inl (silent (purge key) refl)
 
-pub written-packet : (s : Server) (e : Event) → TypedServer s → TypedEvent e → (writtenAt s e ≡ []) ⊎ WrotePacket s e
+pub written-packet : (s : Server) (e : Event) → TypedServer s → TypedEvent e → (writtenAt s e ≡ []) ⊎ WrotePacket s e (writtenAt s e)
 written-packet s e ts t = at-event s ts e t
 
 -- after every list of events from a fresh server
-pub written-after : (c : Settings) (es : List Event) (e : Event) → TypedSettings c → All TypedEvent es → TypedEvent e
-    → (writtenAt (run (fresh c) es) e ≡ []) ⊎ WrotePacket (run (fresh c) es) e
-written-after c es e h a t = written-packet (run (fresh c) es) e (typed-run (fresh c) es a (typed-fresh c h)) t
+pub written-after : (c : Settings) (es : List Event) (e : Event) → settingsCode c ≡ 0 → TypedSettings c → All TypedEvent es → TypedEvent e
+    → (writtenAt (run (fresh c) es) e ≡ []) ⊎ WrotePacket (run (fresh c) es) e (writtenAt (run (fresh c) es) e)
+written-after c es e a h t u = written-packet (run (fresh c) es) e (typed-run (fresh c) es t (typed-fresh c (accepted-settings c a h))) u

@@ -2,24 +2,20 @@
 -- Assumes nothing.
 use Prim.Native.Nat.{ℕ}
 use mathlib.Core.Bool.{Bool, true, false, not}
-use mathlib.Core.List.{List, [], _∷_}
-use Rattle.laws.specs.Choice.{pick}
+use mathlib.Core.List.{List, []}
 use Rattle.laws.specs.Lists.{isEmpty}
 use Rattle.protocol.specs.declared.CaNumber.{CaNumber}
 use Rattle.protocol.specs.declared.CaFlags.{CaFlags}
-use Rattle.protocol.specs.declared.Role.{Role}
-use Rattle.protocol.specs.declared.Role.the-variants.{Master, Slave}
-use Rattle.protocol.specs.declared.Link.{Link}
 use Rattle.protocol.specs.Numbers.{nextCa}
-use Rattle.protocol.specs.Messages.{CsaRecord, summaryOf, Message, Body, ca}
+use Rattle.protocol.specs.Messages.{CsaRecord, summaryOf, Body, ca}
 use Rattle.protocol.specs.Layouts.{packetOf}
 use Rattle.rules.specs.Server.{Settings, Entry, Value, Row, Slot}
-use Rattle.rules.specs.Links.{CaIn, CaRule, refuse, becomeSlave, becomeMaster, repeat, slaveOn, masterOn, masterDone, ignore, restart, caRule, caMove}
+use Rattle.rules.specs.Links.{CaIn, CaRule, refuseCa, becomeSlave, becomeMaster, repeat, slaveOn, masterOn, masterDone, ignore, restart, caRule, caMove}
 use Rattle.rules.specs.Rows.{nextUsed, behind, usedFrom, rowsOf}
 use Rattle.rules.specs.Requests.{Wanted, allTakenIn}
 use Rattle.rules.specs.Updates.{recordOf}
 use Rattle.rules.specs.Slots.{toPeer, moved, completed, withKept, withListed, withRequests, caSent}
-use Rattle.rules.specs.Sent.{Sent, nothing, packet, again}
+use Rattle.rules.specs.Sent.{Sent, nothing, newPacket, again}
 
 -- a CA as it came
 pub record CaPacket : Type 0 where
@@ -42,7 +38,7 @@ summaryRecord e v = summaryOf (recordOf 1 e v)
 
 -- 'from row 0 on entering Summarize'
 abbrev pub answerFrom : CaRule → Slot → ℕ
-answerFrom refuse x = 0
+answerFrom refuseCa x = 0
 answerFrom becomeSlave x = 0
 answerFrom becomeMaster x = 0
 answerFrom repeat x = x .listed
@@ -70,12 +66,12 @@ answerBody master n u rows x =
 
 -- the CA that is written
 abbrev pub caSentBy : CaRule → Settings → List Row → CaPacket → Slot → Sent
-caSentBy refuse s rows c x = nothing
-caSentBy becomeSlave s rows c x = packet (toPeer s x (answerBody false (c .seen .head .number) becomeSlave rows x))
-caSentBy becomeMaster s rows c x = packet (toPeer s x (answerBody true (nextCa (x .link .number)) becomeMaster rows x))
+caSentBy refuseCa s rows c x = nothing
+caSentBy becomeSlave s rows c x = newPacket (toPeer s x (answerBody false (c .seen .head .number) becomeSlave rows x))
+caSentBy becomeMaster s rows c x = newPacket (toPeer s x (answerBody true (nextCa (x .link .number)) becomeMaster rows x))
 caSentBy repeat s rows c x = again (x .kept)
-caSentBy slaveOn s rows c x = packet (toPeer s x (answerBody false (c .seen .head .number) slaveOn rows x))
-caSentBy masterOn s rows c x = packet (toPeer s x (answerBody true (nextCa (x .link .number)) masterOn rows x))
+caSentBy slaveOn s rows c x = newPacket (toPeer s x (answerBody false (c .seen .head .number) slaveOn rows x))
+caSentBy masterOn s rows c x = newPacket (toPeer s x (answerBody true (nextCa (x .link .number)) masterOn rows x))
 caSentBy masterDone s rows c x = nothing
 caSentBy ignore s rows c x = nothing
 caSentBy restart s rows c x = nothing
@@ -95,7 +91,7 @@ taking u rows c x =
 -- 'The last CA sent is kept octet for octet'
 abbrev pub keeping : Sent → ℕ → ℕ → Slot → Slot
 keeping nothing now to x = x
-keeping (packet m) now to x = caSent now (withKept (packetOf m) (withListed to x))
+keeping (newPacket m) now to x = caSent now (withKept (packetOf m) (withListed to x))
 keeping (again p) now to x = caSent now x
 
 abbrev pub answering : CaRule → Settings → ℕ → List Row → CaPacket → Slot → Slot
@@ -103,7 +99,7 @@ answering u s now rows c x =
     keeping (caSentBy u s rows c x) now (answerTo rows (answerFrom u x)) (taking u rows c x)
 
 abbrev pub caSlot : CaRule → Settings → ℕ → List Row → CaPacket → Slot → Slot
-caSlot refuse s now rows c x = x
+caSlot refuseCa s now rows c x = x
 caSlot becomeSlave s now rows c x = completed (answering becomeSlave s now rows c x)
 caSlot becomeMaster s now rows c x = completed (answering becomeMaster s now rows c x)
 caSlot repeat s now rows c x = caSent now x

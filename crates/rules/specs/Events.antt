@@ -1,7 +1,7 @@
 -- The eight events: the server after each, the code and the octets written.
 -- Assumes nothing.
-use Prim.Native.Nat.{ℕ, zero, suc}
-use mathlib.Core.Bool.{Bool, true, false, not, _&&_, _||_}
+use Prim.Native.Nat.{ℕ}
+use mathlib.Core.Bool.{Bool, true, false, _&&_, _||_}
 use mathlib.Core.List.{List, [], _∷_}
 use lib.Dec.{eqb}
 use lib.ListN.{getD}
@@ -10,17 +10,17 @@ use Rattle.laws.specs.Choice.{pick}
 use Rattle.protocol.specs.declared.Alignment.{Alignment}
 use Rattle.protocol.specs.declared.Last.the-variants.{Never}
 use Rattle.protocol.specs.Sizes.{idLength}
-use Rattle.protocol.specs.Messages.{Message}
+use Rattle.protocol.specs.Messages.{Body, ca, csuRequest, csuReply, csus, hello}
 use Rattle.protocol.specs.Reading.{Reading, refused, malformed, message, readPacket}
-use Rattle.rules.specs.Server.{Settings, Row, Slot, freshSlot, freshLink, noTimers, Server, slotAt, fresh}
+use Rattle.rules.specs.Server.{Settings, Row, Slot, freshSlot, freshLink, noTimers, Server, slotAt}
 use Rattle.rules.specs.Links.{isDown, isLive, enters, upMove, downMove}
-use Rattle.rules.specs.Rows.{clearedIf, swept}
+use Rattle.rules.specs.Rows.{clearedIf, sweptIf}
 use Rattle.rules.specs.Updates.{setRows, withdrawRows, purgeRows}
 use Rattle.rules.specs.Slots.{moved, helloSent}
 use Rattle.rules.specs.Sent.{Sent, nothing, octetsOf}
 use Rattle.rules.specs.Packets.{slotOn, slotMalformed, rowsOn, sentOn}
 use Rattle.rules.specs.Poll.{pollSlot, pollSent}
-use Rattle.rules.specs.Refusals.{linkCode, pollCode, packetCode, isMalformedHello, addPeerCode, ownEntry, setCode, withdrawCode, purgeCode}
+use Rattle.rules.specs.Refusals.{linkCode, pollCode, packetCode, isHelloType, addPeerCode, ownEntry, setCode, withdrawCode, purgeCode}
 
 -- `room` is the length of the out buffer
 pub data Event : Type 0 where
@@ -44,12 +44,12 @@ codeOf s (set key payload) = setCode s key payload
 codeOf s (withdraw key) = withdrawCode s key
 codeOf s (purge key) = purgeCode s key
 
--- code 0, or 10 for the malformed Hello
+-- code 0; or 10 and a Hello's type octet: 'the one malformed Hello'
 abbrev pub counts : Event → ℕ → Bool
 counts (addPeer k id) c = eqb c 0
 counts (linkUp k now) c = eqb c 0
 counts (linkDown k now) c = eqb c 0
-counts (packet k now p room) c = eqb c 0 || (eqb c 10 && isMalformedHello p (readPacket idLength p))
+counts (packet k now p room) c = eqb c 0 || (eqb c 10 && isHelloType p)
 counts (poll k now room) c = eqb c 0
 counts (set key payload) c = eqb c 0
 counts (withdraw key) c = eqb c 0
@@ -133,10 +133,48 @@ rowsChanged (set key payload) s live rows = setRows live (ownEntry s key) payloa
 rowsChanged (withdraw key) s live rows = withdrawRows live (ownEntry s key) rows
 rowsChanged (purge key) s live rows = purgeRows live (ownEntry s key) rows
 
+-- the slot whose waiting list an event may empty; one that gets a peer has none
+abbrev pub emptiesIn : Event → Place
+emptiesIn (addPeer k id) = nowhere
+emptiesIn (linkUp k now) = inSlot k
+emptiesIn (linkDown k now) = inSlot k
+emptiesIn (packet k now p room) = inSlot k
+emptiesIn (poll k now room) = inSlot k
+emptiesIn (set key payload) = nowhere
+emptiesIn (withdraw key) = nowhere
+emptiesIn (purge key) = nowhere
+
 -- 'Entering Down or Negotiate empties the slot's .. waiting list'
+abbrev pub entersAt : Place → List Slot → List Slot → Bool
+entersAt (inSlot k) before after = enters (alignmentAt before k) (alignmentAt after k)
+entersAt nowhere before after = false
+
 abbrev pub cleared : Place → List Slot → List Slot → List Row → List Row
 cleared (inSlot k) before after rows = clearedIf (enters (alignmentAt before k) (alignmentAt after k)) k rows
 cleared nowhere before after rows = rows
+
+-- whether rows may be changed: else none has to be freed
+abbrev pub bodyChanges : Body → Bool
+bodyChanges (hello i f ids) = false
+bodyChanges (ca n f rs) = false
+bodyChanges (csuRequest rs) = true
+bodyChanges (csuReply rs) = true
+bodyChanges (csus rs) = false
+
+abbrev pub readChanges : Reading → Bool
+readChanges (refused c) = false
+readChanges (malformed at) = false
+readChanges (message m) = bodyChanges (m .body)
+
+abbrev pub changesRows : Event → Bool
+changesRows (addPeer k id) = false
+changesRows (linkUp k now) = false
+changesRows (linkDown k now) = false
+changesRows (packet k now p room) = readChanges (readPacket idLength p)
+changesRows (poll k now room) = false
+changesRows (set key payload) = true
+changesRows (withdraw key) = true
+changesRows (purge key) = true
 
 -- ---- what is written
 abbrev pub readSent : Reading → Settings → (ℕ → Bool) → ℕ → List Row → Slot → Sent
@@ -173,7 +211,9 @@ acted s e =
       settings = s .settings;
       time = timeAfter e (s .time);
       slots = slots;
-      rows = swept (cleared (placeOf e) (s .slots) slots (rowsChanged e (s .settings) (liveIn (s .slots)) (s .rows)));
+      rows =
+          sweptIf (changesRows e || entersAt (emptiesIn e) (s .slots) slots)
+          (cleared (emptiesIn e) (s .slots) slots (rowsChanged e (s .settings) (liveIn (s .slots)) (s .rows)));
     }
 
 -- 'Every other refusal changes nothing', and writes nothing

@@ -5,25 +5,21 @@ use Prim.Native.Nat.{ℕ, _-_}
 use mathlib.Core.Bool.{Bool, true, false, not, _&&_, _||_}
 use mathlib.Core.List.{List, [], _∷_, map}
 use lib.Dec.{eqb, ltb}
-use lib.ListN.{length, getD, replicate}
-use lib.ListN as lists
+use lib.ListN.{length, replicate}
 use Rattle.laws.specs.Choice.{pick}
-use Rattle.laws.specs.Lists.{isEmpty}
 use Rattle.laws.specs.Tables.{on, has, update, without}
-use Rattle.protocol.specs.declared.CaHead.{CaHead}
-use Rattle.protocol.specs.declared.Link.{Link}
 use Rattle.protocol.specs.Sizes.{idLength}
 use Rattle.protocol.specs.Numbers.{newer, nextCsa, firstNumber, purged}
-use Rattle.protocol.specs.Messages.{CsaRecord, Message, Body, ca, csuRequest, csuReply, csus, hello}
-use Rattle.protocol.specs.Reading.{Reading, refused, malformed, message, readPacket, flagsAt}
-use Rattle.rules.specs.Server.{slotsMost, rowsMost, Settings, Entry, sameEntry, Value, freshLink}
-use Rattle.rules.specs.Links.{isLive, enters, upMove, downMove, helloMove, malformedMove, checkMove, CaIn, caRule, caMove}
+use Rattle.protocol.specs.Messages.{CsaRecord, Body, ca, csuRequest, csuReply, csus, hello}
+use Rattle.protocol.specs.Reading.{Reading, refused, malformed, message, readPacket}
+use Rattle.rules.specs.Server.{slotsMost, rowsMost, Settings, Entry, sameEntry, Value}
+use Rattle.rules.specs.Links.{enters}
 use Rattle.rules.specs.Rows.{isPurged, anySlot}
 use Rattle.rules.specs.Requests.{entryOf}
 use Rattle.rules.specs.Updates.{hopsMost, value, stepped, valueOf}
-use Rattle.rules.specs.Packets.{namesUs}
 use Rattle.rules.specs.Refusals.{ownEntry}
 use Rattle.rules.specs.Events.{Event, addPeer, linkUp, linkDown, packet, poll, set, withdraw, purge, counts, Place, inSlot, nowhere, placeOf, Item}
+use Rattle.rules.specs.SlotHistory.{SlotHistory, unusedSlot, slotHistoriesAfter, stateAt, liveStates}
 
 -- ---- what is known of an entry that has a row
 -- 'our changes and the taken update records for it, null records apart, since it got the row', in order
@@ -62,7 +58,7 @@ waitsAt acts k = waiting (acts k)
 
 -- the slots as they moved, and the entries that have rows
 pub record History : Type 0 where
-  pub links : List Link
+  pub slots : List SlotHistory
   pub entries : List Known
 
 -- ---- puts and takes
@@ -88,8 +84,8 @@ abbrev pub isOf : Entry → Known → Bool
 isOf e x = sameEntry (x .entry) e
 
 -- it is the entry e, and waits for slot k
-abbrev pub waitsFor : ℕ → Entry → Known → Bool
-waitsFor k e x = sameEntry (x .entry) e && waitsAt (x .acts) k
+abbrev pub entryWaits : ℕ → Entry → Known → Bool
+entryWaits k e x = sameEntry (x .entry) e && waitsAt (x .acts) k
 
 -- purged, and waits for nobody
 abbrev pub isDone : Known → Bool
@@ -153,49 +149,6 @@ abbrev pub leftIf : Bool → ℕ → List Known → List Known
 leftIf true k es = map (left k) es
 leftIf false k es = es
 
--- ---- the slots move, 'our CAs as written'
--- the O bit of a CA
-abbrev pub moreIn : List ℕ → Bool
-moreIn p = flagsAt p 18 .more
-
--- a CA in Update or Aligned is answered exactly when a kept CA is repeated
-abbrev pub caLink : List ℕ → CaIn → List ℕ → Link → Link
-caLink id c written l = caMove (caRule id c (not (isEmpty written)) l) c (moreIn written) l
-
-abbrev pub bodyLink : Body → Settings → ℕ → Message → List ℕ → Link → Link
-bodyLink (hello i f ids) s now m written l = helloMove now i f (namesUs (s .id) (m .receiver) ids) l
-bodyLink (ca n f rs) s now m written l =
-    caLink (s .id) (record { head = record { number = n; flags = f }; sender = m .sender; empty = isEmpty rs }) written l
-bodyLink (csuRequest rs) s now m written l = l
-bodyLink (csuReply rs) s now m written l = l
-bodyLink (csus rs) s now m written l = l
-
-abbrev pub readLink : Reading → Settings → ℕ → List ℕ → Link → Link
-readLink (refused c) s now written l = l
-readLink (malformed at) s now written l = malformedMove l
-readLink (message m) s now written l = bodyLink (m .body) s now m written l
-
-abbrev pub linkAfter : Event → Settings → List ℕ → Link → Link
-linkAfter (addPeer k id) s written l = freshLink
-linkAfter (linkUp k now) s written l = upMove l
-linkAfter (linkDown k now) s written l = downMove l
-linkAfter (packet k now p room) s written l = readLink (readPacket idLength p) s now written l
-linkAfter (poll k now room) s written l = checkMove now l
-linkAfter (set key payload) s written l = l
-linkAfter (withdraw key) s written l = l
-linkAfter (purge key) s written l = l
-
-abbrev pub linkAt : List Link → ℕ → Link
-linkAt ls k = getD ls k freshLink
-
-abbrev pub linksAfter : Place → Event → Settings → List ℕ → List Link → List Link
-linksAfter (inSlot k) e s written ls = lists.set ls k (linkAfter e s written (linkAt ls k))
-linksAfter nowhere e s written ls = ls
-
--- the slots in Summarize, Update or Aligned
-abbrev pub liveLinks : List Link → ℕ → Bool
-liveLinks ls j = isLive (linkAt ls j .alignment)
-
 -- ---- the entries
 abbrev pub bodyEntries : Body → (ℕ → Bool) → ℕ → List Known → List Known
 bodyEntries (hello i f ids) live k es = es
@@ -221,19 +174,20 @@ entriesChanged (set key payload) s live es =
 entriesChanged (withdraw key) s live es = update (isOf (ownEntry s key)) (changed live []) es
 entriesChanged (purge key) s live es = update (isOf (ownEntry s key)) (purging live) es
 
-abbrev pub entriesLeft : Place → List Link → List Link → List Known → List Known
-entriesLeft (inSlot k) before after es = leftIf (enters (linkAt before k .alignment) (linkAt after k .alignment)) k es
+abbrev pub entriesLeft : Place → List SlotHistory → List SlotHistory → List Known → List Known
+entriesLeft (inSlot k) before after es = leftIf (enters (stateAt before k) (stateAt after k)) k es
 entriesLeft nowhere before after es = es
 
--- ---- one more item: 'Refused events add nothing, the malformed Hello apart'; at an event's end the purged entries that wait for nobody
--- lose their rows
+-- ---- one more item: 'Refused events add nothing, the malformed Hello apart'
+abbrev pub slotsAt : Settings → History → Item → List SlotHistory
+slotsAt s h i = slotHistoriesAfter (placeOf (i .event)) (i .event) s (i .written) (h .slots)
+
+-- the entries at the event's end, before purged ones that wait for nobody lose their rows
+abbrev pub entriesAt : Settings → History → Item → List Known
+entriesAt s h i = entriesLeft (placeOf (i .event)) (h .slots) (slotsAt s h i) (entriesChanged (i .event) s (liveStates (h .slots)) (h .entries))
+
 abbrev pub noteItem : Settings → History → Item → History
-noteItem s h i =
-    let ls = linksAfter (placeOf (i .event)) (i .event) s (i .written) (h .links) in
-    record {
-      links = ls;
-      entries = without isDone (entriesLeft (placeOf (i .event)) (h .links) ls (entriesChanged (i .event) s (liveLinks (h .links)) (h .entries)));
-    }
+noteItem s h i = record { slots = slotsAt s h i; entries = without isDone (entriesAt s h i) }
 
 abbrev pub addIf : Bool → Settings → History → Item → History
 addIf true s h i = noteItem s h i
@@ -247,7 +201,7 @@ historyFrom s h [] = h
 historyFrom s h (i ∷ is) = historyFrom s (add s h i) is
 
 abbrev pub noHistory : History
-noHistory = record { links = replicate slotsMost freshLink; entries = [] }
+noHistory = record { slots = replicate slotsMost unusedSlot; entries = [] }
 
 abbrev pub history : Settings → List Item → History
 history s is = historyFrom s noHistory is

@@ -11,5 +11,8 @@ pub mod Poll
 pub mod Refusals
 pub mod Events
 pub mod Replay
+pub mod Typed
+pub mod Written
+pub mod SlotHistory
 pub mod History
 pub mod Demand3

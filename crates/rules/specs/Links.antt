@@ -5,9 +5,7 @@ use mathlib.Core.Bool.{Bool, true, false, not, _&&_, _||_}
 use mathlib.Core.List.{List, [], _∷_}
 use lib.Dec.{eqb, ltb}
 use Rattle.laws.specs.Choice.{pick}
-use Rattle.laws.specs.Tables.{has, same}
 use Rattle.protocol.specs.declared.CaNumber.{CaNumber}
-use Rattle.protocol.specs.declared.CaFlags.{CaFlags}
 use Rattle.protocol.specs.declared.CaHead.{CaHead}
 use Rattle.protocol.specs.declared.Role.{Role}
 use Rattle.protocol.specs.declared.Role.the-variants.{Master, Slave}
@@ -189,7 +187,7 @@ fromSlave h n = not (h .flags .master) && (not (h .flags .initial) && eqb (h .nu
 
 -- the rule that a CA takes
 pub data CaRule : Type 0 where
-  refuse : CaRule
+  refuseCa : CaRule
   becomeSlave : CaRule
   becomeMaster : CaRule
   repeat : CaRule
@@ -203,7 +201,7 @@ pub data CaRule : Type 0 where
 abbrev pub negotiateRule : List ℕ → CaIn → Link → CaRule
 negotiateRule id c l =
     pick ((c .head .flags .master && (c .head .flags .initial && c .head .flags .more)) && (c .empty && greater (c .sender) id)) becomeSlave
-    (pick (greater id (c .sender) && fromSlave (c .head) (l .number)) becomeMaster refuse)
+    (pick (greater id (c .sender) && fromSlave (c .head) (l .number)) becomeMaster refuseCa)
 
 -- 'CA in Summarize, slave'
 abbrev pub slaveRule : CaIn → Link → CaRule
@@ -223,7 +221,7 @@ pastRule c kept l Slave = pick (kept && sameHead (c .head) (l .last)) repeat res
 pastRule c kept l Master = pick (fromSlave (c .head) (l .number)) ignore restart
 
 abbrev pub ruleIn : List ℕ → CaIn → Bool → Link → Alignment → CaRule
-ruleIn id c kept l Down = refuse
+ruleIn id c kept l Down = refuseCa
 ruleIn id c kept l Negotiate = negotiateRule id c l
 ruleIn id c kept l (Summarize Slave) = slaveRule c l
 ruleIn id c kept l (Summarize Master) = masterRule c l
@@ -248,7 +246,7 @@ aligned a r n h more l = record {
 }
 
 abbrev pub caMove : CaRule → CaIn → Bool → Link → Link
-caMove refuse c more l = l
+caMove refuseCa c more l = l
 caMove becomeSlave c more l = aligned (Summarize Slave) Slave (c .head .number) (c .head) more l
 caMove becomeMaster c more l = aligned (Summarize Master) Master (nextCa (l .number)) (c .head) more l
 caMove repeat c more l = l

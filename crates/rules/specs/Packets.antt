@@ -1,7 +1,7 @@
 -- A packet taken in a slot: what it does to the slot and the rows, and what is written (document 01, 'Hello', 'Alignment', 'Updates').
 -- Assumes nothing.
 use Prim.Native.Nat.{ℕ}
-use mathlib.Core.Bool.{Bool, true, false}
+use mathlib.Core.Bool.{Bool}
 use mathlib.Core.List.{List, [], _∷_, map}
 use Rattle.laws.specs.Choice.{pick}
 use Rattle.laws.specs.Lists.{isEmpty}
@@ -11,7 +11,7 @@ use Rattle.rules.specs.Server.{Settings, Row, Request, Slot}
 use Rattle.rules.specs.Links.{helloMove, malformedMove}
 use Rattle.rules.specs.Updates.{Updated, allUpdated, allReplied, allSolicited}
 use Rattle.rules.specs.Slots.{toPeer, moved, withKept, withRequests, completed}
-use Rattle.rules.specs.Sent.{Sent, nothing, packet}
+use Rattle.rules.specs.Sent.{Sent, nothing, newPacket}
 use Rattle.rules.specs.Alignment.{caPacket, ruleFor, caSentBy, caSlot}
 
 -- 'if any receiver is us'
@@ -24,7 +24,7 @@ updatedBy live k rs rows qs = allUpdated live k rs (record { rows = rows; reques
 
 -- a packet with some records, 'with none, nothing is written'
 abbrev pub unlessEmpty : Settings → Slot → (List CsaRecord → Body) → List CsaRecord → Sent
-unlessEmpty s x b rs = pick (isEmpty rs) nothing (packet (toPeer s x (b rs)))
+unlessEmpty s x b rs = pick (isEmpty rs) nothing (newPacket (toPeer s x (b rs)))
 
 -- ---- the slot
 abbrev pub slotOn : Body → Settings → (ℕ → Bool) → ℕ → ℕ → List Row → Message → Slot → Slot

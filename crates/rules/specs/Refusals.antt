@@ -6,17 +6,17 @@ use mathlib.Core.List.{List, [], _∷_}
 use lib.Dec.{eqb, ltb, leb}
 use lib.ListN.{length}
 use Rattle.laws.specs.Lists.{isEmpty}
-use Rattle.laws.specs.Tables.{has, find, same}
+use Rattle.laws.specs.Tables.{has, same}
 use Rattle.protocol.specs.Sizes.{idLength, keyMost, payloadMost, packetMost}
 use Rattle.protocol.specs.Fields.{octet}
 use Rattle.protocol.specs.Numbers.{spent}
 use Rattle.protocol.specs.Messages.{Message, Body, ca, csuRequest, csuReply, csus, hello}
 use Rattle.protocol.specs.Answers.{Refusal, refuse, firstCode}
 use Rattle.protocol.specs.Reading.{Reading, refused, malformed, message, readPacket}
-use Rattle.rules.specs.Server.{slotsMost, Settings, Entry, Row, free, used, isFree, holds, Slot, Server, slotAt}
+use Rattle.rules.specs.Server.{slotsMost, Settings, Entry, Row, free, used, isFree, Slot, Server, slotAt}
 use Rattle.rules.specs.Links as links
 use Rattle.rules.specs.Links.{CaRule, isDown, isPast}
-use Rattle.rules.specs.Rows.{isPurged}
+use Rattle.rules.specs.Rows.{entryRow, isPurged}
 use Rattle.rules.specs.Alignment.{caPacket, ruleFor}
 
 abbrev pub orElse : ℕ → ℕ → ℕ
@@ -55,7 +55,7 @@ isHello (csus rs) = false
 isHello (hello i f ids) = true
 
 abbrev pub isRefused : CaRule → Bool
-isRefused links.refuse = true
+isRefused links.refuseCa = true
 isRefused links.becomeSlave = false
 isRefused links.becomeMaster = false
 isRefused links.repeat = false
@@ -92,11 +92,9 @@ readingCode s x (message m) = messageCode s x m
 abbrev pub packetCode : Server → ℕ → ℕ → List ℕ → ℕ → ℕ
 packetCode s k now p room = orElse (pollCode s k now room) (readingCode (s .settings) (slotAt s k) (readPacket idLength p))
 
--- 'the one malformed Hello': told by its type octet alone
-abbrev pub isMalformedHello : List ℕ → Reading → Bool
-isMalformedHello p (refused c) = false
-isMalformedHello p (malformed at) = eqb (octet p 1) 5
-isMalformedHello p (message m) = false
+-- the type octet says Hello
+abbrev pub isHelloType : List ℕ → Bool
+isHelloType p = eqb (octet p 1) 5
 
 -- ---- adding a peer: '1 for a slot above 7, then 17 for a slot in use, our own ID, or another slot's ID'; and for an ID that is none
 abbrev pub isPeer : List ℕ → Slot → Bool
@@ -110,19 +108,15 @@ addPeerCode s k id =
     ∷ [])
 
 -- ---- local events
-abbrev pub keyGood : List ℕ → Bool
-keyGood key = ltb 0 (length key) && leb (length key) keyMost
+abbrev pub ownKeyGood : List ℕ → Bool
+ownKeyGood key = ltb 0 (length key) && leb (length key) keyMost
 
-abbrev pub payloadGood : List ℕ → Bool
-payloadGood p = ltb 0 (length p) && leb (length p) payloadMost
+abbrev pub ownPayloadGood : List ℕ → Bool
+ownPayloadGood p = ltb 0 (length p) && leb (length p) payloadMost
 
 -- our entry of a key
 abbrev pub ownEntry : Settings → List ℕ → Entry
 ownEntry s key = record { key = key; originator = s .id }
-
--- the first row that holds an entry, free where none does
-abbrev pub firstRow : Entry → List Row → Row
-firstRow e rows = find (holds e) free rows
 
 -- 'the number is 2147483646 or more'
 abbrev pub rowSpent : Row → Bool
@@ -141,23 +135,23 @@ rowEmpty (used e v m) = isEmpty (v .payload)
 abbrev pub setCode : Server → List ℕ → List ℕ → ℕ
 setCode s key payload =
     firstCode
-    (refuse (not (keyGood key && payloadGood payload)) 17
-    ∷ refuse (rowSpent (firstRow (ownEntry (s .settings) key) (s .rows))) 16
-    ∷ refuse (isFree (firstRow (ownEntry (s .settings) key) (s .rows)) && not (has isFree (s .rows))) 15
+    (refuse (not (ownKeyGood key && ownPayloadGood payload)) 17
+    ∷ refuse (rowSpent (entryRow (ownEntry (s .settings) key) (s .rows))) 16
+    ∷ refuse (isFree (entryRow (ownEntry (s .settings) key) (s .rows)) && not (has isFree (s .rows))) 15
     ∷ [])
 
 abbrev pub withdrawCode : Server → List ℕ → ℕ
 withdrawCode s key =
     firstCode
-    (refuse (not (keyGood key)) 17
-    ∷ refuse (rowEmpty (firstRow (ownEntry (s .settings) key) (s .rows))) 18
-    ∷ refuse (rowSpent (firstRow (ownEntry (s .settings) key) (s .rows))) 16
+    (refuse (not (ownKeyGood key)) 17
+    ∷ refuse (rowEmpty (entryRow (ownEntry (s .settings) key) (s .rows))) 18
+    ∷ refuse (rowSpent (entryRow (ownEntry (s .settings) key) (s .rows))) 16
     ∷ [])
 
 abbrev pub purgeCode : Server → List ℕ → ℕ
 purgeCode s key =
     firstCode
-    (refuse (not (keyGood key)) 17
-    ∷ refuse (isFree (firstRow (ownEntry (s .settings) key) (s .rows))) 18
-    ∷ refuse (rowPurged (firstRow (ownEntry (s .settings) key) (s .rows))) 16
+    (refuse (not (ownKeyGood key)) 17
+    ∷ refuse (isFree (entryRow (ownEntry (s .settings) key) (s .rows))) 18
+    ∷ refuse (rowPurged (entryRow (ownEntry (s .settings) key) (s .rows))) 16
     ∷ [])

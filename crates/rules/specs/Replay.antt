@@ -1,9 +1,9 @@
 -- Document 01, 'The replay program': from an input's octets to its lines.
 -- Assumes nothing.
 use Prim.Native.Nat.{ℕ, zero, suc, _/_}
-use mathlib.Core.Bool.{Bool, true, false, not, _&&_, _||_}
-use mathlib.Core.List.{List, [], _∷_, _++_}
-use lib.Dec.{eqb, ltb, leb}
+use mathlib.Core.Bool.{Bool, true, false, _&&_}
+use mathlib.Core.List.{List, [], _∷_}
+use lib.Dec.{eqb, leb}
 use lib.ListN.{length, take, drop}
 use Rattle.laws.specs.Choice.{pick}
 use Rattle.laws.specs.Lists.{isEmpty, part}
@@ -13,14 +13,14 @@ use Rattle.rules.specs.Server.{Settings, settingsCode, Server, fresh, ro
 use Rattle.rules.specs.Events.{Event, addPeer, linkUp, linkDown, packet, poll, set, withdraw, purge, codeOf, step, writtenAt}
 
 -- 'records of 292 octets, big-endian, no header: kind, slot, length (2), time (4), data (284)'
-abbrev pub recordSize : ℕ
-recordSize = 292
+abbrev pub replayRecord : ℕ
+replayRecord = 292
 
 abbrev pub kindAt : List ℕ → ℕ
 kindAt r = octet r 0
 
-abbrev pub slotIn : List ℕ → ℕ
-slotIn r = octet r 1
+abbrev pub slotOctet : List ℕ → ℕ
+slotOctet r = octet r 1
 
 abbrev pub lengthAt : List ℕ → ℕ
 lengthAt r = field2 r 2
@@ -47,26 +47,26 @@ packetIn r = pick (leb (lengthAt r) (packetMost idLength)) (take (lengthAt r) (d
 
 -- 'In 5 to 7 slot is the key length .. data a key of 16 then payload'; a key length over 16 or payload length over 32 is no key or payload
 abbrev pub keyIn : List ℕ → List ℕ
-keyIn r = pick (leb (slotIn r) keyMost) (take (slotIn r) (dataAt r)) []
+keyIn r = pick (leb (slotOctet r) keyMost) (take (slotOctet r) (dataAt r)) []
 
 abbrev pub payloadIn : List ℕ → List ℕ
 payloadIn r = pick (leb (lengthAt r) 32) (part r 24 (lengthAt r)) []
 
 -- what a record is: an event, or none
-pub data Kind : Type 0 where
-  event : Event → Kind
-  other : Kind
+pub data RecordKind : Type 0 where
+  anEvent : Event → RecordKind
+  other : RecordKind
 
-abbrev pub kindOf : List ℕ → Kind
-kindOf r =
-    pick (eqb (kindAt r) 1) (event (linkUp (slotIn r) (timeAt r)))
-    (pick (eqb (kindAt r) 2) (event (linkDown (slotIn r) (timeAt r)))
-    (pick (eqb (kindAt r) 3) (event (packet (slotIn r) (timeAt r) (packetIn r) (packetMost idLength)))
-    (pick (eqb (kindAt r) 4) (event (poll (slotIn r) (timeAt r) (packetMost idLength)))
-    (pick (eqb (kindAt r) 5) (event (set (keyIn r) (payloadIn r)))
-    (pick (eqb (kindAt r) 6) (event (withdraw (keyIn r)))
-    (pick (eqb (kindAt r) 7) (event (purge (keyIn r)))
-    (pick (eqb (kindAt r) 8) (event (addPeer (slotIn r) (part r 8 idLength))) other)))))))
+abbrev pub recordKind : List ℕ → RecordKind
+recordKind r =
+    pick (eqb (kindAt r) 1) (anEvent (linkUp (slotOctet r) (timeAt r)))
+    (pick (eqb (kindAt r) 2) (anEvent (linkDown (slotOctet r) (timeAt r)))
+    (pick (eqb (kindAt r) 3) (anEvent (packet (slotOctet r) (timeAt r) (packetIn r) (packetMost idLength)))
+    (pick (eqb (kindAt r) 4) (anEvent (poll (slotOctet r) (timeAt r) (packetMost idLength)))
+    (pick (eqb (kindAt r) 5) (anEvent (set (keyIn r) (payloadIn r)))
+    (pick (eqb (kindAt r) 6) (anEvent (withdraw (keyIn r)))
+    (pick (eqb (kindAt r) 7) (anEvent (purge (keyIn r)))
+    (pick (eqb (kindAt r) 8) (anEvent (addPeer (slotOctet r) (part r 8 idLength))) other)))))))
 
 -- ---- the lines
 -- a line: 'event number, code, octets written, rows used', and the octets beside it; `cut` is the line of no numbers
@@ -74,53 +74,53 @@ pub record Line : Type 0 where
   pub numbers : List ℕ
   pub octets : List ℕ
 
-abbrev pub line : ℕ → ℕ → List ℕ → Server → Line
-line n code octets s = record { numbers = n ∷ code ∷ length octets ∷ rowsUsed (s .rows) ∷ []; octets = octets }
+abbrev pub aLine : ℕ → ℕ → List ℕ → Server → Line
+aLine n code octets s = record { numbers = n ∷ code ∷ length octets ∷ rowsUsed (s .rows) ∷ []; octets = octets }
 
 abbrev pub cut : Line
 cut = record { numbers = []; octets = [] }
 
-abbrev pub lineOf : Kind → ℕ → Server → Line
-lineOf (event e) n s = line n (codeOf s e) (writtenAt s e) (step s e)
+abbrev pub lineOf : RecordKind → ℕ → Server → Line
+lineOf (anEvent e) n s = aLine n (codeOf s e) (writtenAt s e) (step s e)
 -- 'Other kinds, or 0 later, print 17'
-lineOf other n s = line n 17 [] s
+lineOf other n s = aLine n 17 [] s
 
-abbrev pub serverAfter : Kind → Server → Server
-serverAfter (event e) s = step s e
+abbrev pub serverAfter : RecordKind → Server → Server
+serverAfter (anEvent e) s = step s e
 serverAfter other s = s
 
 -- some whole records, then nothing: 'a short last record prints `cut` and ends'
 unfoldable pub linesFrom : ℕ → ℕ → Server → List ℕ → List Line
 linesFrom zero n s input = pick (isEmpty input) [] (cut ∷ [])
 linesFrom (suc more) n s input =
-    lineOf (kindOf (take recordSize input)) n s
-    ∷ linesFrom more (suc n) (serverAfter (kindOf (take recordSize input)) s) (drop recordSize input)
+    lineOf (recordKind (take replayRecord input)) n s
+    ∷ linesFrom more (suc n) (serverAfter (recordKind (take replayRecord input)) s) (drop replayRecord input)
 
 -- 'Empty input, a first record that isn't accepted settings, or a short last record prints `cut` and ends'
 abbrev pub startsGood : List ℕ → Bool
 startsGood input =
-    leb recordSize (length input) && (eqb (kindAt input) 0 && eqb (settingsCode (settingsIn input)) 0)
+    leb replayRecord (length input) && (eqb (kindAt input) 0 && eqb (settingsCode (settingsIn input)) 0)
 
 unfoldable pub replay : Bool → List ℕ → List Line
 replay true input =
-    line 0 0 [] (fresh (settingsIn input))
-    ∷ linesFrom (length (drop recordSize input) / recordSize) 1 (fresh (settingsIn input)) (drop recordSize input)
+    aLine 0 0 [] (fresh (settingsIn input))
+    ∷ linesFrom (length (drop replayRecord input) / replayRecord) 1 (fresh (settingsIn input)) (drop replayRecord input)
 replay false input = cut ∷ []
 
-abbrev pub numbersOf : List Line → List (List ℕ)
-numbersOf [] = []
-numbersOf (l ∷ ls) = l .numbers ∷ numbersOf ls
+abbrev pub lineNumbers : List Line → List (List ℕ)
+lineNumbers [] = []
+lineNumbers (l ∷ ls) = l .numbers ∷ lineNumbers ls
 
-abbrev pub octetsOf : List Line → List (List ℕ)
-octetsOf [] = []
-octetsOf (l ∷ ls) = l .octets ∷ octetsOf ls
+abbrev pub lineOctets : List Line → List (List ℕ)
+lineOctets [] = []
+lineOctets (l ∷ ls) = l .octets ∷ lineOctets ls
 
 unfoldable pub replayed : List ℕ → List Line
 replayed input = replay (startsGood input) input
 
 -- the lines, and the octets written at each event beside them
 unfoldable pub linesOf : List ℕ → List (List ℕ)
-linesOf input = numbersOf (replayed input)
+linesOf input = lineNumbers (replayed input)
 
 unfoldable pub writtenOf : List ℕ → List (List ℕ)
-writtenOf input = octetsOf (replayed input)
+writtenOf input = lineOctets (replayed input)

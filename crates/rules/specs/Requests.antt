@@ -1,7 +1,7 @@
 -- Document 01, 'Alignment', 'Taking in', and 'Updates': the request list of a slot.
 -- Assumes nothing.
-use Prim.Native.Nat.{ℕ, suc, _≤_}
-use mathlib.Core.Bool.{Bool, true, false, not, _&&_}
+use Prim.Native.Nat.{ℕ, suc}
+use mathlib.Core.Bool.{Bool, false, not, _&&_}
 use mathlib.Core.List.{List, [], _∷_, _++_}
 use lib.Dec.{ltb}
 use lib.ListN.{length, take, drop}
@@ -10,7 +10,8 @@ use Rattle.laws.specs.Tables.{has, change, without}
 use Rattle.protocol.specs.declared.CsaNumber.{CsaNumber}
 use Rattle.protocol.specs.Numbers.{newer}
 use Rattle.protocol.specs.Messages.{CsaRecord}
-use Rattle.rules.specs.Server.{requestsMost, Entry, sameEntry, Value, Row, free, used, Request}
+use Rattle.rules.specs.Server.{requestsMost, Entry, sameEntry, Row, free, used, Request}
+use Rattle.rules.specs.Rows.{entryRow}
 
 abbrev pub entryOf : CsaRecord → Entry
 entryOf r = record { key = r .key; originator = r .originator }
@@ -19,10 +20,10 @@ entryOf r = record { key = r .key; originator = r .originator }
 abbrev pub asks : Entry → Request → Bool
 asks e q = sameEntry (q .entry) e
 
--- the row holds the entry with a number no smaller
-abbrev pub upToDate : Entry → CsaNumber → Row → Bool
-upToDate e n free = false
-upToDate e n (used f v m) = sameEntry f e && not (newer n (v .number))
+-- the row of an entry has a number no smaller
+abbrev pub upToDate : CsaNumber → Row → Bool
+upToDate n free = false
+upToDate n (used e v m) = not (newer n (v .number))
 
 -- a request list and the number of requests that found no room
 pub record Wanted : Type 0 where
@@ -42,7 +43,7 @@ join e n w =
 
 -- 'a summary of an absent or newer entry joins the request list'
 abbrev pub takenIn : List Row → CsaRecord → Wanted → Wanted
-takenIn rows r w = pick (has (upToDate (entryOf r) (r .number)) rows) w (join (entryOf r) (r .number) w)
+takenIn rows r w = pick (upToDate (r .number) (entryRow (entryOf r) rows)) w (join (entryOf r) (r .number) w)
 
 abbrev pub allTakenIn : List Row → List CsaRecord → Wanted → Wanted
 allTakenIn rows [] w = w

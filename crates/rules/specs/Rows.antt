@@ -7,10 +7,14 @@ use lib.Dec.{eqb, ltb}
 use lib.Signed.{leZ}
 use Rattle.laws.specs.Choice.{pick}
 use Rattle.laws.specs.Lists.{isEmpty}
-use Rattle.laws.specs.Tables.{on, has, change}
+use Rattle.laws.specs.Tables.{on, find, change}
 use Rattle.protocol.specs.declared.CsaNumber.{CsaNumber}
 use Rattle.protocol.specs.Numbers.{purged}
 use Rattle.rules.specs.Server.{rowsMost, Entry, Value, Row, free, used, isFree, isUsed, holds, waitsFor, rowAt}
+
+-- the row of an entry: the first that holds it, free where none does
+abbrev pub entryRow : Entry → List Row → Row
+entryRow e rows = find (holds e) free rows
 
 -- number 2147483647
 abbrev pub isPurged : CsaNumber → Bool
@@ -34,12 +38,19 @@ abbrev pub filled : Row → List Row → List Row
 filled r rows = change isFree (λ _. r) rows
 
 -- ---- 'A purged row that waits for nobody at the end of an event is freed'
+abbrev pub toFree : Row → Bool
+toFree free = false
+toFree (used e v m) = isPurged (v .number) && not (anySlot m)
+
 abbrev pub sweptRow : Row → Row
-sweptRow free = free
-sweptRow (used e v m) = pick (isPurged (v .number) && not (anySlot m)) free (used e v m)
+sweptRow r = pick (toFree r) free r
 
 abbrev pub swept : List Row → List Row
 swept rows = map sweptRow rows
+
+abbrev pub sweptIf : Bool → List Row → List Row
+sweptIf true rows = swept rows
+sweptIf false rows = rows
 
 -- the marks of a slot emptied
 abbrev pub clearedIf : Bool → ℕ → List Row → List Row

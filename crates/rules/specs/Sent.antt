@@ -7,10 +7,10 @@ use Rattle.protocol.specs.Layouts.{packetOf}
 
 pub data Sent : Type 0 where
   nothing : Sent
-  packet : Message → Sent
+  newPacket : Message → Sent
   again : List ℕ → Sent
 
 abbrev pub octetsOf : Sent → List ℕ
 octetsOf nothing = []
-octetsOf (packet m) = packetOf m
+octetsOf (newPacket m) = packetOf m
 octetsOf (again p) = p

@@ -2,8 +2,8 @@
 -- Assumes nothing.
 use Prim.Native.Nat.{ℕ}
 use mathlib.Core.Bool.{Bool, true, false, not, _&&_, _||_}
-use mathlib.Core.List.{List, [], _∷_}
-use lib.Dec.{eqb, ltb}
+use mathlib.Core.List.{List, []}
+use lib.Dec.{eqb}
 use lib.ListN.{length, getD, replicate}
 use Rattle.laws.specs.Choice.{pick}
 use Rattle.laws.specs.Tables.{same, count}
@@ -15,7 +15,7 @@ use Rattle.protocol.specs.declared.Role.the-variants.{Master}
 use Rattle.protocol.specs.declared.HelloState.the-variants.{Down}
 use Rattle.protocol.specs.declared.Alignment.the-variants.{Down as alignmentDown}
 use Rattle.protocol.specs.Sizes.{idLength}
-use Rattle.protocol.specs.Numbers.{ca}
+use Rattle.protocol.specs.Numbers.{caNumber}
 
 -- 8 peer slots, 64 cache rows, 64 request entries a slot
 abbrev pub slotsMost : ℕ
@@ -90,8 +90,8 @@ freshLink = record {
   factor = 0;
   alignment = alignmentDown;
   role = Master;
-  number = ca 0;
-  last = record { number = ca 0; flags = record { master = false; initial = false; more = false } };
+  number = caNumber 0;
+  last = record { number = caNumber 0; flags = record { master = false; initial = false; more = false } };
   more = false;
 }
 

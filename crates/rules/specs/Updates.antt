@@ -1,19 +1,19 @@
 -- Document 01, 'Updates': changes of ours, the records of a CSU Request, of a CSU Reply and of a CSUS.
 -- Assumes nothing.
 use Prim.Native.Nat.{ℕ, _-_}
-use mathlib.Core.Bool.{Bool, true, false, not, _&&_}
+use mathlib.Core.Bool.{Bool, true, false}
 use mathlib.Core.List.{List, [], _∷_, _++_, map}
 use lib.Dec.{ltb}
 use Rattle.laws.specs.Choice.{pick}
-use Rattle.laws.specs.Tables.{on, has, find, change}
+use Rattle.laws.specs.Tables.{on, has, change}
 use Rattle.protocol.specs.declared.CsaNumber.{CsaNumber}
 use Rattle.protocol.specs.declared.Step.{Step}
 use Rattle.protocol.specs.declared.Step.the-variants.{Number, Spent}
 use Rattle.protocol.specs.Numbers.{newer, nextCsa, firstNumber, purged}
 use Rattle.protocol.specs.Messages.{CsaRecord}
-use Rattle.rules.specs.Server.{Entry, sameEntry, Value, Row, free, used, isFree, holds, Request}
-use Rattle.rules.specs.Rows.{isPurged, unmarked, spread, filled}
-use Rattle.rules.specs.Requests.{entryOf, upToDate, acknowledged, dropped}
+use Rattle.rules.specs.Server.{Entry, Value, Row, free, used, isFree, holds, Request}
+use Rattle.rules.specs.Rows.{entryRow, isPurged, unmarked, spread, filled}
+use Rattle.rules.specs.Requests.{entryOf, acknowledged, dropped}
 
 -- 'remaining hops 16'
 abbrev pub hopsMost : ℕ
@@ -62,22 +62,13 @@ pub data UpdateRule : Type 0 where
   equal : UpdateRule
   older : UpdateRule
 
--- the row holds the entry with a smaller number
-abbrev pub outOfDate : Entry → CsaNumber → Row → Bool
-outOfDate e n free = false
-outOfDate e n (used f v m) = sameEntry f e && newer n (v .number)
-
--- the row holds the entry with a greater number
-abbrev pub ahead : Entry → CsaNumber → Row → Bool
-ahead e n free = false
-ahead e n (used f v m) = sameEntry f e && newer (v .number) n
+-- of a record that is not null, by the row of its entry. `room`: there is a free row
+abbrev pub ruleAt : CsaNumber → Bool → Row → UpdateRule
+ruleAt n room free = pick (isPurged n) purgeAbsent (pick room stored full)
+ruleAt n room (used e v m) = pick (newer n (v .number)) stored (pick (newer (v .number) n) older equal)
 
 abbrev pub updateRule : CsaRecord → List Row → UpdateRule
-updateRule r rows =
-    pick (r .null) null
-    (pick (has (holds (entryOf r)) rows)
-    (pick (has (outOfDate (entryOf r) (r .number)) rows) stored (pick (has (ahead (entryOf r) (r .number)) rows) older equal))
-    (pick (isPurged (r .number)) purgeAbsent (pick (has isFree rows) stored full)))
+updateRule r rows = pick (r .null) null (ruleAt (r .number) (has isFree rows) (entryRow (entryOf r) rows))
 
 -- 'Storing sets remaining to hop count minus one'
 abbrev pub valueOf : CsaRecord → Value
@@ -91,9 +82,9 @@ renewed live k r free = free
 renewed live k r (used e v m) = used e (valueOf r) (spread live k (r .hops - 1))
 
 -- 'an older record from this slot, with remaining 1 or more' is a put
-abbrev pub owed : ℕ → Row → Row
-owed k free = free
-owed k (used e v m) = used e v (pick (ltb 0 (v .remaining)) (on k true m) m)
+abbrev pub waitsAgain : ℕ → Row → Row
+waitsAgain k free = free
+waitsAgain k (used e v m) = used e v (pick (ltb 0 (v .remaining)) (on k true m) m)
 
 -- what a record from slot k does to the rows
 abbrev pub rowsBy : UpdateRule → (ℕ → Bool) → ℕ → CsaRecord → List Row → List Row
@@ -104,7 +95,7 @@ rowsBy stored live k r rows =
     pick (has (holds (entryOf r)) rows) (change (holds (entryOf r)) (renewed live k r) rows) (filled (rowFor live k r) rows)
 -- 'an equal .. record from it' is a take
 rowsBy equal live k r rows = change (holds (entryOf r)) (unmarked k) rows
-rowsBy older live k r rows = change (holds (entryOf r)) (owed k) rows
+rowsBy older live k r rows = change (holds (entryOf r)) (waitsAgain k) rows
 
 -- what it does to the slot's requests: 'drop its request', or acknowledging
 abbrev pub requestsBy : UpdateRule → CsaRecord → List Request → List Request
@@ -168,10 +159,10 @@ nullRecord r = record { hops = 1; null = true; number = r .number; key = r .key;
 
 abbrev pub solicitedOf : CsaRecord → Row → CsaRecord
 solicitedOf r free = nullRecord r
-solicitedOf r (used e v m) = recordOf hopsMost e v
+solicitedOf r (used e v m) = pick (newer (r .number) (v .number)) (nullRecord r) (recordOf hopsMost e v)
 
 abbrev pub solicited : List Row → CsaRecord → CsaRecord
-solicited rows r = solicitedOf r (find (upToDate (entryOf r) (r .number)) free rows)
+solicited rows r = solicitedOf r (entryRow (entryOf r) rows)
 
 abbrev pub allSolicited : List Row → List CsaRecord → List CsaRecord
 allSolicited rows rs = map (solicited rows) rs

@@ -20,7 +20,7 @@ use Rattle.rules.specs.Sent.{octetsOf}
 use Rattle.rules.specs.Alignment.{ruleFor}
 use Rattle.rules.specs.Updates.{allReplied, allSolicited}
 use Rattle.rules.specs.Packets.{namesUs, unlessEmpty, slotOn, rowsOn, sentOn}
-use Rattle.rules.proofs.Forget.{enters-same, moved-link}
+use Rattle.rules.proofs.PastLaws.{enters-same, moved-link}
 use Rattle.memory.specs.Memory.{rowsIn}
 use Rattle.wire.specs.declared.read.Head.{Head}
 use Rattle.wire.specs.Views.{recordsOf, receiversOf, messageOf}

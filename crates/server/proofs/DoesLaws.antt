@@ -28,7 +28,7 @@ use Rattle.slots.specs.Codes.{codeNumber}
 use Rattle.slots.proofs.Laws.{refused-code}
 use Rattle.actions.specs.Parts.{Wrote}
 use Rattle.server.specs.declared.answers.Answer.{Answer}
-use Rattle.server.specs.State.{serverOf, Does, DoesOut}
+use Rattle.server.specs.State.{serverOf, Steps, StepsOut}
 
 -- ---- what code 0 tells
 no-code : (b : Bool) (c rest : ℕ) → pick b (suc c) rest ≡ 0 → (b ≡ false) × (rest ≡ 0)
@@ -105,7 +105,7 @@ Plain e = (c : ℕ) → counts e c ≡ eqb c 0
 -- ---- the contract
 module _ (e : Event) (s : Server) (slots before : List ℕ) where
   pub does-not : (o : Outcome) (r : Answer) → codeNumber o ≡ codeOf (serverOf s slots before) e → counts e (codeNumber o) ≡ false
-      → r ≡ record { server = s; outcome = o; written = 0 } → Does e s slots slots before before r
+      → r ≡ record { server = s; outcome = o; written = 0 } → Steps e s slots slots before before r
   does-not o r c n a =
       let h : counts e (codeOf (serverOf s slots before) e) ≡ false = ap (counts e) (sym c) ∙ n in
       record {
@@ -116,12 +116,12 @@ module _ (e : Event) (s : Server) (slots before : List ℕ) where
       }
 
   pub does-refused : Plain e → (o : Outcome) (f : Failure) (r : Answer) → codeNumber o ≡ codeOf (serverOf s slots before) e → o ≡ Refused f
-      → r ≡ record { server = s; outcome = Refused f; written = 0 } → Does e s slots slots before before r
+      → r ≡ record { server = s; outcome = Refused f; written = 0 } → Steps e s slots slots before before r
   does-refused p o f r c t a =
       does-not (Refused f) r (ap codeNumber (sym t) ∙ c) (p (codeNumber (Refused f)) ∙ sym (refused-code (Refused f) refl)) a
 
   pub does-counted : (slots′ after : List ℕ) (r : Answer) → counts e (codeOf (serverOf s slots before) e) ≡ true → codeNumber (r .outcome) ≡ codeOf (serverOf s slots before) e
-      → serverOf (r .server) slots′ after ≡ acted (serverOf s slots before) e → r .written ≡ length (octetsOf (sentBy (serverOf s slots before) e)) → Does e s slots slots′ before after r
+      → serverOf (r .server) slots′ after ≡ acted (serverOf s slots before) e → r .written ≡ length (octetsOf (sentBy (serverOf s slots before) e)) → Steps e s slots slots′ before after r
   does-counted slots′ after r h c v w = record {
     code = c;
     server = v ∙ sym (step-counted (serverOf s slots before) e h);
@@ -130,38 +130,38 @@ module _ (e : Event) (s : Server) (slots before : List ℕ) where
   }
 
   pub does-taken : (o : Outcome) (slots′ after : List ℕ) (r : Answer) → codeNumber o ≡ codeOf (serverOf s slots before) e → o ≡ Taken → r .outcome ≡ Taken
-      → serverOf (r .server) slots′ after ≡ acted (serverOf s slots before) e → r .written ≡ length (octetsOf (sentBy (serverOf s slots before) e)) → Does e s slots slots′ before after r
+      → serverOf (r .server) slots′ after ≡ acted (serverOf s slots before) e → r .written ≡ length (octetsOf (sentBy (serverOf s slots before) e)) → Steps e s slots slots′ before after r
   does-taken o slots′ after r c t u v w =
       let z : codeOf (serverOf s slots before) e ≡ 0 = taken-zero o (codeOf (serverOf s slots before) e) t c in
       does-counted slots′ after r (ap (counts e) z ∙ counts-zero e) (ap codeNumber u ∙ sym z) v w
 
   -- with an out buffer
   pub out-not : (o : Outcome) (r : Answer) (out : List ℕ) → codeNumber o ≡ codeOf (serverOf s slots before) e → counts e (codeNumber o) ≡ false
-      → r ≡ record { server = s; outcome = o; written = 0 } → DoesOut e s slots slots before before out out r
+      → r ≡ record { server = s; outcome = o; written = 0 } → StepsOut e s slots slots before before out out r
   unfolding written
   out-not o r out c n a =
       let h : counts e (codeOf (serverOf s slots before) e) ≡ false = ap (counts e) (sym c) ∙ n in
       record {
-        does = does-not o r c n a;
+        steps = does-not o r c n a;
         octets = ap (λ (p : List ℕ). written p out) (sym (written-not (serverOf s slots before) e h));
       }
 
   pub out-refused : Plain e → (o : Outcome) (f : Failure) (r : Answer) (out : List ℕ) → codeNumber o ≡ codeOf (serverOf s slots before) e → o ≡ Refused f
-      → r ≡ record { server = s; outcome = Refused f; written = 0 } → DoesOut e s slots slots before before out out r
+      → r ≡ record { server = s; outcome = Refused f; written = 0 } → StepsOut e s slots slots before before out out r
   out-refused p o f r out c t a =
       out-not (Refused f) r out (ap codeNumber (sym t) ∙ c) (p (codeNumber (Refused f)) ∙ sym (refused-code (Refused f) refl)) a
 
   pub out-counted : (slots′ after : List ℕ) (r : Answer) (out out′ : List ℕ) → counts e (codeOf (serverOf s slots before) e) ≡ true
       → codeNumber (r .outcome) ≡ codeOf (serverOf s slots before) e → serverOf (r .server) slots′ after ≡ acted (serverOf s slots before) e
-      → Wrote (octetsOf (sentBy (serverOf s slots before) e)) out out′ (r .written) → DoesOut e s slots slots′ before after out out′ r
+      → Wrote (octetsOf (sentBy (serverOf s slots before) e)) out out′ (r .written) → StepsOut e s slots slots′ before after out out′ r
   out-counted slots′ after r out out′ h c v w = record {
-    does = does-counted slots′ after r h c v (w .size);
+    steps = does-counted slots′ after r h c v (w .size);
     octets = w .octets ∙ ap (λ (p : List ℕ). written p out) (sym (written-counted (serverOf s slots before) e h));
   }
 
   pub out-taken : (o : Outcome) (slots′ after : List ℕ) (r : Answer) (out out′ : List ℕ) → codeNumber o ≡ codeOf (serverOf s slots before) e → o ≡ Taken
       → r .outcome ≡ Taken → serverOf (r .server) slots′ after ≡ acted (serverOf s slots before) e
-      → Wrote (octetsOf (sentBy (serverOf s slots before) e)) out out′ (r .written) → DoesOut e s slots slots′ before after out out′ r
+      → Wrote (octetsOf (sentBy (serverOf s slots before) e)) out out′ (r .written) → StepsOut e s slots slots′ before after out out′ r
   out-taken o slots′ after r out out′ c t u v w =
       let z : codeOf (serverOf s slots before) e ≡ 0 = taken-zero o (codeOf (serverOf s slots before) e) t c in
       out-counted slots′ after r out out′ (ap (counts e) z ∙ counts-zero e) (ap codeNumber u ∙ sym z) v w

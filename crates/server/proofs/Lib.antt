@@ -10,3 +10,4 @@ pub mod QueryLaws
 pub mod ReadLaws
 pub mod ActLaws
 pub mod PacketLaws
+pub mod HostLaws

@@ -14,8 +14,8 @@ use Rattle.rules.specs.Links.{isDown, enters, upMove, downMove}
 use Rattle.rules.specs.Rows.{clearedIf}
 use Rattle.rules.specs.Slots.{moved, helloSent}
 use Rattle.rules.specs.Sent.{octetsOf}
-use Rattle.rules.specs.Events.{Event, inSlot, placeOf, upSlot, timeAfter, codeOf, sentBy}
-use Rattle.rules.proofs.Forget.{enters-same, moved-link}
+use Rattle.rules.specs.Events.{Event, inSlot, placeOf, emptiesIn, changesRows, upSlot, timeAfter, codeOf, sentBy}
+use Rattle.rules.proofs.PastLaws.{enters-same, moved-link}
 use Rattle.memory.specs.Memory.{rowsIn}
 use Rattle.slots.specs.declared.state.Slot.{Slot}
 use Rattle.slots.specs.declared.state.Server.{Server}
@@ -28,7 +28,7 @@ use Rattle.actions.specs.declared.parts.Acted.{Acted}
 use Rattle.actions.specs.Parts.{slotWith, Leaves, Moves}
 use Rattle.actions.proofs.PartLaws.{leaves-struct, leaves-as, leaves-same}
 use Rattle.server.specs.declared.answers.Answer.{Answer}
-use Rattle.server.specs.State.{serverOf, Does, Ends}
+use Rattle.server.specs.State.{serverOf, Steps, Ends}
 use Rattle.server.specs.Events.{Ups}
 use Rattle.server.proofs.ServerLaws.{LeavesBy, ends-acted}
 use Rattle.server.proofs.DoesLaws.{does-taken}
@@ -65,11 +65,11 @@ module _ (k : ℕ) (x : Slot) (before : List ℕ) where
 
 -- ---- the whole, of an event in a slot that writes nothing
 pub does-silent : (e : Event) (s : Server) (slots slots′ : List ℕ) (k now : ℕ) (x y : Slot) (before mid after : List ℕ) (o : Outcome) (a : Acted) (r : Answer) → k < 8
-    → placeOf e ≡ inSlot k → now ≡ timeAfter e (s .time) → octetsOf (sentBy (serverOf s slots before) e) ≡ []
+    → placeOf e ≡ inSlot k → emptiesIn e ≡ inSlot k → now ≡ timeAfter e (s .time) → octetsOf (sentBy (serverOf s slots before) e) ≡ []
     → codeNumber o ≡ codeOf (serverOf s slots before) e → o ≡ Taken → x ≡ slotIn slots k
-    → LeavesBy e s slots k x before mid y → a ≡ record { slot = y; written = 0 } → Ends s slots slots′ k now a mid after r
-    → Does e s slots slots′ before after r
-does-silent e s slots slots′ k now x y before mid after o a r h p t n c u q l b w =
+    → LeavesBy e s slots k x before mid y → a ≡ record { slot = y; written = 0 } → Ends (changesRows e) s slots slots′ k now a mid after r
+    → Steps e s slots slots′ before after r
+does-silent e s slots slots′ k now x y before mid after o a r h p v t n c u q l b w =
     let m : LeavesBy e s slots k x before mid (a .slot) = subst (λ (z : Acted). LeavesBy e s slots k x before mid (z .slot)) (sym b) l in
-    does-taken e s slots before o slots′ after r c u (w .outcome) (ends-acted s slots before mid e k x q slots′ after now a r h p t m w)
+    does-taken e s slots before o slots′ after r c u (w .outcome) (ends-acted s slots before mid e k x q slots′ after now a r h p v t m w)
     (w .written ∙ ap (λ (z : Acted). z .written) b ∙ sym (ap length n))

@@ -15,10 +15,10 @@ use Rattle.protocol.specs.declared.CsaNumber.{CsaNumber}
 use Rattle.protocol.specs.Numbers.{spent}
 use Rattle.rules.specs.Server as rules
 use Rattle.rules.specs.Server.{Entry, Row, isFree, isUsed, holds}
-use Rattle.rules.specs.Rows.{isPurged, swept}
+use Rattle.rules.specs.Rows.{entryRow, isPurged, swept}
 use Rattle.rules.specs.Updates.{setRows, withdrawRows, purgeRows}
 use Rattle.rules.specs.Sent.{octetsOf}
-use Rattle.rules.specs.Refusals.{keyGood, payloadGood, ownEntry, firstRow, rowSpent, rowPurged, rowEmpty, setCode, withdrawCode, purgeCode}
+use Rattle.rules.specs.Refusals.{ownKeyGood, ownPayloadGood, ownEntry, rowSpent, rowPurged, rowEmpty, setCode, withdrawCode, purgeCode}
 use Rattle.rules.specs.Events as events
 use Rattle.rules.specs.Events.{Event, liveIn, codeOf, acted, sentBy}
 use Rattle.rules.proofs.CodeTold.{set-told}
@@ -39,7 +39,7 @@ use Rattle.slots.specs.Codes.{codeNumber}
 use Rattle.slots.specs.State.{settingsOf}
 use Rattle.server.specs.declared.answers.Answer.{Answer}
 use Rattle.server.specs.declared.own.Own.{Own}
-use Rattle.server.specs.State.{slotsOf, serverOf, Does}
+use Rattle.server.specs.State.{slotsOf, serverOf, Steps}
 use Rattle.server.specs.Events.{ownOf}
 use Rattle.server.proofs.ServerLaws.{slots-same}
 use Rattle.server.proofs.DoesLaws.{does-taken}
@@ -58,14 +58,14 @@ own-used m i n p a b c number payload f g h =
     (λ u z. record { held = true; spent = (f ∙ ap spent number) z; purged = (g ∙ ap isPurged number) z; empty = (h ∙ no-length p ∙ ap (λ (l : List ℕ). isEmpty l) payload) z })
 
 module _ (e : Entry) (m : List ℕ) where
-  pub own-found : (i : ℕ) (o : Own) → firstFrom (holds e) 0 (rowsIn m) ≡ At i → (isUsed (rowIn m i) ≡ true → o ≡ ownOf (rowIn m i)) → o ≡ ownOf (firstRow e (rowsIn m))
+  pub own-found : (i : ℕ) (o : Own) → firstFrom (holds e) 0 (rowsIn m) ≡ At i → (isUsed (rowIn m i) ≡ true → o ≡ ownOf (rowIn m i)) → o ≡ ownOf (entryRow e (rowsIn m))
   own-found i o at w =
       let first = found-first (holds e) (rowsIn m) i at in
-      let row : firstRow e (rowsIn m) ≡ usedRow m i = find-first (holds e) (rowsIn m) i first ∙ found-row m e i at in
+      let row : entryRow e (rowsIn m) ≡ usedRow m i = find-first (holds e) (rowsIn m) i first ∙ found-row m e i at in
       let there : rowIn m i ≡ usedRow m i = sym (row-get m i (found-below (holds e) m i at)) ∙ found-row m e i at in
       w (ap isUsed there) ∙ ap ownOf (there ∙ sym row)
 
-  pub own-none : firstFrom (holds e) 0 (rowsIn m) ≡ Nothing → record { held = false; spent = false; purged = false; empty = true } ≡ ownOf (firstRow e (rowsIn m))
+  pub own-none : firstFrom (holds e) 0 (rowsIn m) ≡ Nothing → record { held = false; spent = false; purged = false; empty = true } ≡ ownOf (entryRow e (rowsIn m))
   own-none none = sym (ap ownOf (find-none (holds e) (rowsIn m) (has-none (holds e) (rowsIn m) none)))
 
 -- ---- the size of a key, of a payload
@@ -84,19 +84,19 @@ not-back false false h = refl
 
 module _ (s : rules.Server) (key : List ℕ) where
   abbrev ours : Row
-  ours = firstRow (ownEntry (s .settings) key) (s .rows)
+  ours = entryRow (ownEntry (s .settings) key) (s .rows)
 
-  pub set-key : (p : List ℕ) → keyGood key ≡ false → 17 ≡ setCode s key p
+  pub set-key : (p : List ℕ) → ownKeyGood key ≡ false → 17 ≡ setCode s key p
   set-key p h = rw h
 
-  pub withdraw-key : keyGood key ≡ false → 17 ≡ withdrawCode s key
+  pub withdraw-key : ownKeyGood key ≡ false → 17 ≡ withdrawCode s key
   withdraw-key h = rw h
 
-  pub purge-key : keyGood key ≡ false → 17 ≡ purgeCode s key
+  pub purge-key : ownKeyGood key ≡ false → 17 ≡ purgeCode s key
   purge-key h = rw h
 
-  module _ (good : keyGood key ≡ true) where
-    pub set-payload : (p : List ℕ) → payloadGood p ≡ false → 17 ≡ setCode s key p
+  module _ (good : ownKeyGood key ≡ true) where
+    pub set-payload : (p : List ℕ) → ownPayloadGood p ≡ false → 17 ≡ setCode s key p
     set-payload p h = rw (good, h)
 
     module _ (o : Own) (w : o ≡ ownOf ours) where
@@ -112,7 +112,7 @@ module _ (s : rules.Server) (key : List ℕ) where
       is-empty : {b : Bool} → o .empty ≡ b → rowEmpty ours ≡ b
       is-empty h = sym (ap (λ (x : Own). x .empty) w) ∙ h
 
-      module _ (p : List ℕ) (fits : payloadGood p ≡ true) where
+      module _ (p : List ℕ) (fits : ownPayloadGood p ≡ true) where
         pub set-spent : o .spent ≡ true → 16 ≡ setCode s key p
         set-spent h = rw (good, fits, is-spent h)
 
@@ -179,7 +179,7 @@ own-server s slots before after rows e =
 
 module _ (s : Server) (slots before after key : List ℕ) (o : Outcome) (r : Answer) (t : o ≡ Taken) (a : r ≡ record { server = s; outcome = Taken; written = 0 }) where
   own-does : (e : Event) (rows : List Row) → codeNumber o ≡ codeOf (serverOf s slots before) e → memoryOf after ≡ withRows rows (memoryOf before)
-      → withOwn s slots before rows ≡ acted (serverOf s slots before) e → 0 ≡ length (octetsOf (sentBy (serverOf s slots before) e)) → Does e s slots slots before after r
+      → withOwn s slots before rows ≡ acted (serverOf s slots before) e → 0 ≡ length (octetsOf (sentBy (serverOf s slots before) e)) → Steps e s slots slots before after r
   own-does e rows c m does none =
       does-taken e s slots before o slots after r c t (ap (λ (x : Answer). x .outcome) a)
       (ap (λ (x : Answer). serverOf (x .server) slots after) a ∙ own-server s slots before after rows m ∙ does) (ap (λ (x : Answer). x .written) a ∙ none)
@@ -191,16 +191,16 @@ module _ (s : Server) (slots before after key : List ℕ) (o : Outcome) (r : Ans
   our = ownEntry (settingsOf (s .settings)) key
 
   pub set-does : (p : List ℕ) → codeNumber o ≡ setCode (serverOf s slots before) key p → memoryOf after ≡ rowsAs (λ rows. swept (setRows live our p rows)) before
-      → Does (events.set key p) s slots slots before after r
+      → Steps (events.set key p) s slots slots before after r
   unfolding codeOf acted
   set-does p c m = own-does (events.set key p) (swept (setRows live our p (rowsIn before))) c m refl refl
 
   pub withdraw-does : codeNumber o ≡ withdrawCode (serverOf s slots before) key → memoryOf after ≡ rowsAs (λ rows. swept (withdrawRows live our rows)) before
-      → Does (events.withdraw key) s slots slots before after r
+      → Steps (events.withdraw key) s slots slots before after r
   unfolding codeOf acted
   withdraw-does c m = own-does (events.withdraw key) (swept (withdrawRows live our (rowsIn before))) c m refl refl
 
   pub purge-does : codeNumber o ≡ purgeCode (serverOf s slots before) key → memoryOf after ≡ rowsAs (λ rows. swept (purgeRows live our rows)) before
-      → Does (events.purge key) s slots slots before after r
+      → Steps (events.purge key) s slots slots before after r
   unfolding codeOf acted
   purge-does c m = own-does (events.purge key) (swept (purgeRows live our (rowsIn before))) c m refl refl

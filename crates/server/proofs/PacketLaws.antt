@@ -2,8 +2,9 @@
 -- Assumes nothing.
 use Prim.Native.Nat.{ℕ, zero, suc, _≤_, _<_}
 use mathlib.Core.Path.{_≡_, refl, sym, ap, _∙_, subst}
-use mathlib.Core.Bool.{Bool, true, false, not, _&&_, _||_, and-false, false≢true}
+use mathlib.Core.Bool.{Bool, true, false, not, _&&_, _||_, false≢true}
 use mathlib.Core.List.{List, []}
+use mathlib.Core.Logic.{_⊎_, inl, inr}
 use native.Mathlib.Omega.{arith}
 use lib.Dec.{eqb, ltb}
 use lib.ListN.{length}
@@ -19,9 +20,10 @@ use Rattle.rules.specs.Server as rules
 use Rattle.rules.specs.Server.{slotAt}
 use Rattle.rules.specs.Links.{isDown, malformedMove}
 use Rattle.rules.specs.Sent.{octetsOf}
-use Rattle.rules.specs.Refusals.{orElse, pollCode, messageCode, readingCode, isMalformedHello}
+use Rattle.rules.specs.Refusals.{orElse, pollCode, messageCode, readingCode, isHelloType}
 use Rattle.rules.specs.Events as events
-use Rattle.rules.specs.Events.{Event, liveIn, readSent, codeOf, counts}
+use Rattle.rules.specs.Events.{Event, liveIn, bodyChanges, readSent, codeOf, counts}
+use Rattle.rules.proofs.StatedPacket.{message-range}
 use Rattle.memory.specs.Memory.{isMarked, rowsIn}
 use Rattle.slots.specs.declared.state.Slot.{Slot}
 use Rattle.slots.specs.declared.state.Server.{Server}
@@ -37,15 +39,22 @@ use Rattle.actions.specs.declared.parts.Acted.{Acted}
 use Rattle.actions.specs.Parts.{slotWith, Moves, Wrote}
 use Rattle.actions.proofs.PartLaws.{wrote-none}
 use Rattle.server.specs.declared.answers.Answer.{Answer}
-use Rattle.server.specs.State.{slotsOf, serverOf, ended, Ends, DoesOut}
+use Rattle.server.specs.State.{slotsOf, serverOf, ended, sweepsAt, Ends, StepsOut}
 use Rattle.server.specs.Events.{ActsOn, slotNow, countsAs, readServer, readOctets, DoesRead}
 use Rattle.server.proofs.ServerLaws.{slot-of, closes, acted-in}
 use Rattle.server.proofs.DoesLaws.{step-not, written-not, out-not, out-counted}
 use Rattle.server.proofs.ActLaws.{moves-rows, acts-live}
 
 -- ---- what was read counts, or not
-none-counts : (c : ℕ) (h : Bool) → eqb c 0 ≡ false → h ≡ false → (eqb c 0 || (eqb c 10 && h)) ≡ false
-none-counts c h e f = rw (e, f) (and-false (eqb c 10))
+none-counts : (c : ℕ) (h : Bool) → eqb c 0 ≡ false → (eqb c 10 && h) ≡ false → (eqb c 0 || (eqb c 10 && h)) ≡ false
+none-counts c h e f = rw (e, f)
+
+-- the codes of a message are 11 to 14
+not-ten : (s : rules.Settings) (x : rules.Slot) (m : Message) → eqb (messageCode s x m) 10 ≡ false
+not-ten s x m = by (message-range s x m) where
+  by : (messageCode s x m ≡ 0) ⊎ (10 < messageCode s x m) → eqb (messageCode s x m) 10 ≡ false
+  by (inl e) = ne-eqb (messageCode s x m) 10 (λ z. omega (arith, e, z))
+  by (inr g) = ne-eqb (messageCode s x m) 10 (λ z. omega (arith, g, z))
 
 refused-none : (f : Failure) (c : ℕ) → codeNumber (Refused f) ≡ c → eqb c 0 ≡ false
 refused-none f c e = ap (λ (n : ℕ). eqb n 0) (sym e) ∙ sym (refused-code (Refused f) refl)
@@ -58,12 +67,12 @@ module _ (m : Reading) (p : List ℕ) (k now : ℕ) (s : Server) (slots before :
   octetsIf b = pick b (readOctets m k s slots before) []
 
   -- a refusal, but for the malformed Hello
-  pub read-refused : isMalformedHello p m ≡ false → (f : Failure) (r : Answer) (out : List ℕ)
+  pub read-refused : (eqb (readingCode (settingsOf (s .settings)) (slotNow slots k before) m) 10 && isHelloType p) ≡ false → (f : Failure) (r : Answer) (out : List ℕ)
       → codeNumber (Refused f) ≡ readingCode (settingsOf (s .settings)) (slotNow slots k before) m
       → r ≡ record { server = s; outcome = Refused f; written = 0 } → DoesRead m p k now s slots slots before before out out r
   read-refused h f r out c a =
       let code : ℕ = readingCode (settingsOf (s .settings)) (slotNow slots k before) m in
-      let n : countsAs m p s slots k before ≡ false = none-counts code (isMalformedHello p m) (refused-none f code c) h in
+      let n : countsAs m p s slots k before ≡ false = none-counts code (isHelloType p) (refused-none f code c) h in
       record {
         code = ap (λ (x : Answer). codeNumber (x .outcome)) a ∙ c;
         server = ap (λ (x : Answer). serverOf (x .server) slots before) a ∙ sym (ap serverIf n);
@@ -87,7 +96,7 @@ module _ (m : Reading) (p : List ℕ) (k now : ℕ) (s : Server) (slots before :
 module _ (p : List ℕ) (k now : ℕ) (s : Server) (slots : List ℕ) (x : Slot) (before : List ℕ) (h : k < 8) (e : x ≡ slotIn slots k) where
   -- the malformed Hello
   pub read-malformed : (at : ℕ) (slots′ mid after out : List ℕ) (y : Slot) (u : Server) (r : Answer) → octet p 1 ≡ 5
-      → Moves k (malformedMove (x .link)) x before mid y → serverOf u slots′ after ≡ ended k now (slotWith y k mid) (serverOf s slots mid)
+      → Moves k (malformedMove (x .link)) x before mid y → serverOf u slots′ after ≡ ended (sweepsAt false slots k y) k now (slotWith y k mid) (serverOf s slots mid)
       → r ≡ record { server = u; outcome = Refused failure.Malformed; written = 0 }
       → DoesRead (malformed at) p k now s slots slots′ before after out out r
   read-malformed at slots′ mid after out y u r t l v a =
@@ -95,7 +104,7 @@ module _ (p : List ℕ) (k now : ℕ) (s : Server) (slots : List ℕ) (x : Slot)
       let moves : Moves k (malformedMove (z .link)) z before mid y = subst (λ (w : Slot). Moves k (malformedMove (w .link)) w before mid y) e l in
       subst (λ (q : Answer). DoesRead (malformed at) p k now s slots slots′ before after out out q) (sym a)
       (read-counted (malformed at) p k now s slots before slots′ after (record { server = u; outcome = Refused failure.Malformed; written = 0 }) out out
-      (eq-eqb (octet p 1) 5 t) refl (closes (moves-rows k (malformedMove (z .link)) z before mid y moves) h s u slots slots′ now after v) (wrote-none out))
+      (eq-eqb (octet p 1) 5 t) refl (closes (moves-rows k (malformedMove (z .link)) z before mid y moves) h false s u slots slots′ now after v) (wrote-none out))
 
   -- a message
   module _ (m : Message) (o : Outcome) (c : codeNumber o ≡ messageCode (settingsOf (s .settings)) (slotWith x k before) m) where
@@ -104,11 +113,12 @@ module _ (p : List ℕ) (k now : ℕ) (s : Server) (slots : List ℕ) (x : Slot)
 
     pub message-refused : (f : Failure) (r : Answer) (out : List ℕ) → o ≡ Refused f → r ≡ record { server = s; outcome = Refused f; written = 0 }
         → DoesRead (message m) p k now s slots slots before before out out r
-    message-refused f r out t a = read-refused (message m) p k now s slots before refl f r out (ap codeNumber (sym t) ∙ code-now) a
+    message-refused f r out t a = read-refused (message m) p k now s slots before
+        (ap (λ (b : Bool). b && isHelloType p) (not-ten (settingsOf (s .settings)) (slotNow slots k before) m)) f r out (ap codeNumber (sym t) ∙ code-now) a
 
     pub message-taken : (live : ℕ) (slots′ mid after out out′ : List ℕ) (a : Acted) (r : Answer) → o ≡ Taken
         → ((memory : List ℕ) (rs : List CsaRecord) → m .body ≡ csuRequest rs → isMarked live ≡ liveIn (slotsOf slots memory))
-        → ActsOn m (isMarked live) k now (settingsOf (s .settings)) x before mid out out′ a → Ends s slots slots′ k now a mid after r
+        → ActsOn m (isMarked live) k now (settingsOf (s .settings)) x before mid out out′ a → Ends (bodyChanges (m .body)) s slots slots′ k now a mid after r
         → DoesRead (message m) p k now s slots slots′ before after out out′ r
     message-taken live slots′ mid after out out′ a r t lv d n =
         let z : messageCode (settingsOf (s .settings)) (slotNow slots k before) m ≡ 0 = sym code-now ∙ ap codeNumber t in
@@ -116,8 +126,8 @@ module _ (p : List ℕ) (k now : ℕ) (s : Server) (slots : List ℕ) (x : Slot)
         acts-live m (isMarked live) (liveIn (slotsOf slots before)) k now (settingsOf (s .settings)) (slotIn slots k) before mid out out′ a (lv before)
         (subst (λ (w : Slot). ActsOn m (isMarked live) k now (settingsOf (s .settings)) w before mid out out′ a) e d) in
         read-counted (message m) p k now s slots before slots′ after r out out′
-        (ap (λ (i : ℕ). eqb i 0 || (eqb i 10 && false)) z) (ap codeNumber (n .outcome) ∙ sym z)
-        (closes (acts .left) h s (r .server) slots slots′ now after (n .server))
+        (ap (λ (i : ℕ). eqb i 0 || (eqb i 10 && isHelloType p)) z) (ap codeNumber (n .outcome) ∙ sym z)
+        (closes (acts .left) h (bodyChanges (m .body)) s (r .server) slots slots′ now after (n .server))
         (record { size = n .written ∙ acts .wrote .size; octets = acts .wrote .octets })
 
 -- ---- the event
@@ -140,7 +150,7 @@ module _ (p : List ℕ) (k now : ℕ) (s : Server) (slots before out : List ℕ)
   theEvent = events.packet k now p (length out)
 
   pub packet-refused : (o : Outcome) (f : Failure) (r : Answer) → codeNumber o ≡ pollCode (serverOf s slots before) k now (length out) → o ≡ Refused f
-      → r ≡ record { server = s; outcome = Refused f; written = 0 } → DoesOut (events.packet k now p (length out)) s slots slots before before out out r
+      → r ≡ record { server = s; outcome = Refused f; written = 0 } → StepsOut (events.packet k now p (length out)) s slots slots before before out out r
   unfolding codeOf
   packet-refused o f r c t a =
       let n : ℕ = codeNumber (Refused f) in
@@ -163,10 +173,10 @@ module _ (p : List ℕ) (k now : ℕ) (s : Server) (slots before out : List ℕ)
     counted-is b t = ap (counts theEvent) code-is ∙ t
 
     by-count : (b : Bool) (slots′ after out′ : List ℕ) (r : Answer) → countsAs (readPacket idLength p) p s slots k before ≡ b
-        → DoesRead (readPacket idLength p) p k now s slots slots′ before after out out′ r → DoesOut theEvent s slots slots′ before after out out′ r
+        → DoesRead (readPacket idLength p) p k now s slots slots′ before after out out′ r → StepsOut theEvent s slots slots′ before after out out′ r
     by-count true slots′ after out′ r t d =
         out-counted theEvent s slots before slots′ after r out out′ (counted-is true t) (d .code ∙ sym code-is)
-        (d .server ∙ ap (serverIf (readPacket idLength p) p k now s slots before) t ∙ sym (acted-in s slots before theEvent k h refl))
+        (d .server ∙ ap (serverIf (readPacket idLength p) p k now s slots before) t ∙ sym (acted-in s slots before theEvent k h refl refl))
         (subst (λ (q : List ℕ). Wrote q out out′ (r .written))
         (ap (octetsIf (readPacket idLength p) p k now s slots before) t
         ∙ sym (ap (λ (x : rules.Slot). octetsOf (readSent (readPacket idLength p) (settingsOf (s .settings)) (liveIn (slotsOf slots before)) k (rowsIn before) x))
@@ -176,7 +186,7 @@ module _ (p : List ℕ) (k now : ℕ) (s : Server) (slots before out : List ℕ)
         let w : Wrote [] out out′ (r .written) =
         subst (λ (q : List ℕ). Wrote q out out′ (r .written)) (ap (octetsIf (readPacket idLength p) p k now s slots before) t) (d .wrote) in
         record {
-          does = record {
+          steps = record {
             code = d .code ∙ sym code-is;
             server = d .server ∙ ap (serverIf (readPacket idLength p) p k now s slots before) t ∙ sym (step-not (serverOf s slots before) theEvent c);
             size = w .size ∙ sym (ap length (written-not (serverOf s slots before) theEvent c));
@@ -186,5 +196,5 @@ module _ (p : List ℕ) (k now : ℕ) (s : Server) (slots before out : List ℕ)
         }
 
     pub packet-read : (slots′ after out′ : List ℕ) (r : Answer) → DoesRead (readPacket idLength p) p k now s slots slots′ before after out out′ r
-        → DoesOut (events.packet k now p (length out)) s slots slots′ before after out out′ r
+        → StepsOut (events.packet k now p (length out)) s slots slots′ before after out out′ r
     packet-read slots′ after out′ r d = by-count (countsAs (readPacket idLength p) p s slots k before) slots′ after out′ r refl d

@@ -12,14 +12,12 @@ use borrow.Author.Tests.{lt-ltb, le-ltb, eq-eqb, ne-eqb}
 use Rattle.laws.specs.Choice.{pick}
 use Rattle.laws.specs.Lists.{table}
 use Rattle.laws.specs.Tables.{has, same}
-use Rattle.protocol.specs.declared.Alignment.the-variants.{Down}
-use Rattle.rules.specs.Server.{freshSlot, fresh, settingsCode}
-use Rattle.rules.specs.Links.{enters}
-use Rattle.rules.specs.Rows.{clearedIf}
+use Rattle.rules.specs.Server.{Row, freshSlot, fresh, settingsCode}
+use Rattle.rules.specs.Typed.{TypedSettings}
 use Rattle.rules.specs.Refusals.{isPeer, addPeerCode}
-use Rattle.rules.specs.Events.{addPeer, peerSlot}
+use Rattle.rules.specs.Events.{addPeer, peerSlot, acted}
 use Rattle.memory.specs.Memory.{rowsIn, Memory, memoryOf, withRows, withRequests, withKept, requestsOf, keptOf, freshMemory}
-use Rattle.records.proofs.MemoryLaws.{memory-rows, rows-after}
+use Rattle.records.proofs.MemoryLaws.{memory-rows}
 use Rattle.slots.specs.declared.state.Settings.{Settings}
 use Rattle.slots.specs.declared.state.Slot.{Slot}
 use Rattle.slots.specs.declared.state.Server.{Server}
@@ -28,10 +26,11 @@ use Rattle.slots.specs.declared.answers.Outcome.the-variants.{Taken, Refused}
 use Rattle.slots.specs.Codes.{codeNumber}
 use Rattle.slots.specs.State.{settingsOf, slotOf}
 use Rattle.table.specs.Words.{slotFrom, slotIn}
+use Rattle.actions.specs.Parts.{Leaves}
+use Rattle.actions.proofs.PartLaws.{left-rows}
 use Rattle.server.specs.declared.answers.Answer.{Answer}
 use Rattle.server.specs.State.{slotsOf, serverOf, Starts}
-use Rattle.server.specs.Events.{Clears}
-use Rattle.server.proofs.ServerLaws.{slots-eight, slot-get, LeavesBy}
+use Rattle.server.proofs.ServerLaws.{slots-eight, slot-get, IsPut, slots-put, slots-left}
 use Rattle.server.proofs.CodeLaws.{used-is}
 
 -- ---- a fresh server
@@ -60,22 +59,24 @@ module _ (s : Settings) (n : length (s .id) ≡ 4) where
   both-set d e = rw (eq-eqb (length (s .id)) 4 n, ne-eqb (s .interval) 0 d, ne-eqb (s .factor) 0 e)
 
 module _ (s : Settings) (v : Server) (r : Answer) where
-  pub starts-not : (slots m : List ℕ) → settingsCode (settingsOf s) ≡ 17 → r ≡ record { server = v; outcome = Refused Size; written = 0 }
+  pub starts-not : (slots m : List ℕ) → TypedSettings (settingsOf s) → settingsCode (settingsOf s) ≡ 17 → r ≡ record { server = v; outcome = Refused Size; written = 0 }
       → Starts s slots slots m m r
-  starts-not slots m c a = record {
+  starts-not slots m t c a = record {
     code = ap (λ (x : Answer). codeNumber (x .outcome)) a ∙ sym c;
     server = λ z. absurd (omega (arith, c, z));
     size = ap (λ (x : Answer). x .written) a;
     same = λ _. (refl, refl);
+    typed = t;
   }
 
-  pub starts-so : (slots slots′ before after : List ℕ) → settingsCode (settingsOf s) ≡ 0 → serverOf v slots′ after ≡ fresh (settingsOf s)
+  pub starts-so : (slots slots′ before after : List ℕ) → TypedSettings (settingsOf s) → settingsCode (settingsOf s) ≡ 0 → serverOf v slots′ after ≡ fresh (settingsOf s)
       → r ≡ record { server = v; outcome = Taken; written = 0 } → Starts s slots slots′ before after r
-  starts-so slots slots′ before after c f a = record {
+  starts-so slots slots′ before after t c f a = record {
     code = ap (λ (x : Answer). codeNumber (x .outcome)) a ∙ sym c;
     server = λ _. ap (λ (x : Answer). serverOf (x .server) slots′ after) a ∙ f;
     size = ap (λ (x : Answer). x .written) a;
     same = λ z. absurd (z c);
+    typed = t;
   }
 
 -- ---- a peer looked for, slot by slot
@@ -129,14 +130,15 @@ module _ (s : Server) (slots : List ℕ) (k : ℕ) (id m : List ℕ) where
         pub add-tried : (b : Bool) → same id (s .settings .id) ≡ false → b ≡ has (isPeer id) (slotsOf slots m) → pick b 17 0 ≡ addCode
         add-tried b o e = rw (lt-ltb k 8 h, eq-eqb (length id) 4 n, used-is s slots k m h u, o, e)
 
--- ---- the slot
-pub clears : (k : ℕ) (x : Slot) (before mid after : List ℕ) (b : Bool) → b ≡ enters (x .link .alignment) Down
-    → memoryOf mid ≡ withKept k [] (withRequests k [] (memoryOf before)) → memoryOf after ≡ withRows (clearedIf b k (rowsIn mid)) (memoryOf mid)
-    → Clears k x before after
-clears k x before mid after b e f g =
-    let rows : rowsIn mid ≡ rowsIn before = rows-after before mid (withKept k [] (withRequests k [] (memoryOf before))) f ∙ memory-rows before in
-    g ∙ (λ z. withRows (clearedIf (e z) k (rows z)) (f z))
-
-pub add-leaves : (s : Server) (slots : List ℕ) (k : ℕ) (id a : List ℕ) (x y : Slot) (before after : List ℕ) → a ≡ id → slotOf y [] [] ≡ peerSlot a → Clears k x before after
-    → LeavesBy (addPeer k id) s slots k x before after y
-add-leaves s slots k id a x y before after q e c = record { struct = e ∙ ap peerSlot q; memory = c }
+-- ---- the slot: no requests and no kept CA, the rows as they were
+pub adds : (s : Server) (slots slots′ : List ℕ) (k : ℕ) (id a : List ℕ) (y : Slot) (before after : List ℕ) → k < 8 → a ≡ id → slotOf y [] [] ≡ peerSlot a → IsPut k y slots slots′
+    → memoryOf after ≡ withKept k [] (withRequests k [] (memoryOf before)) → serverOf s slots′ after ≡ acted (serverOf s slots before) (addPeer k id)
+unfolding acted
+adds s slots slots′ k id a y before after h q e p m =
+    let l : Leaves k (peerSlot id) (rowsIn before) before after y = record { struct = e ∙ ap peerSlot q; memory = m ∙ ap (λ (r : List Row). withKept k [] (withRequests k [] (withRows r (memoryOf before)))) (memory-rows before) } in
+    λ z. record {
+      settings = settingsOf (s .settings);
+      time = s .time;
+      slots = (slots-put slots slots′ after k y h p ∙ slots-left l h slots) z;
+      rows = left-rows l z;
+    }

@@ -2,7 +2,7 @@
 -- Assumes nothing.
 use Prim.Native.Nat.{ℕ, _<_}
 use mathlib.Core.Path.{_≡_, refl, sym, ap, _∙_, subst}
-use mathlib.Core.Bool.{Bool}
+use mathlib.Core.Bool.{Bool, _||_}
 use mathlib.Core.List.{List, []}
 use native.Mathlib.Omega.{arith}
 use lib.ListN.{length, getD}
@@ -15,8 +15,8 @@ use Rattle.laws.proofs.TableLaws.{table-length, table-get, table-same, table-se
 use Rattle.rules.specs.Server as rules
 use Rattle.rules.specs.Server.{freshSlot, Row, slotAt}
 use Rattle.rules.specs.Links.{enters}
-use Rattle.rules.specs.Rows.{clearedIf, swept}
-use Rattle.rules.specs.Events.{Event, Place, inSlot, placeOf, liveIn, slotAfter, slotsAfter, rowsChanged, cleared, timeAfter, acted}
+use Rattle.rules.specs.Rows.{clearedIf, sweptIf}
+use Rattle.rules.specs.Events.{Event, inSlot, placeOf, liveIn, slotAfter, slotsAfter, rowsChanged, emptiesIn, entersAt, cleared, changesRows, timeAfter, acted}
 use Rattle.memory.specs.Memory.{rowsIn, Memory, memoryOf, withRows, requestsOf, keptOf}
 use Rattle.records.proofs.MemoryLaws.{rows-are}
 use Rattle.slots.specs.declared.state.Slot.{Slot}
@@ -27,7 +27,7 @@ use Rattle.actions.specs.declared.parts.Acted.{Acted}
 use Rattle.actions.specs.Parts.{slotWith, Leaves}
 use Rattle.actions.proofs.PartLaws.{left-rows, left-slot}
 use Rattle.server.specs.declared.answers.Answer.{Answer}
-use Rattle.server.specs.State.{slotsOf, serverOf, ended, Ends}
+use Rattle.server.specs.State.{slotsOf, serverOf, ended, sweepsAt, Ends}
 use Rattle.server.specs.Events.{slotNow}
 
 -- ---- the slots
@@ -63,11 +63,11 @@ slots-same slots a b e f =
     table-same (λ j. slotWith (slotIn slots j) j b) (λ j. slotWith (slotIn slots j) j a) 8
     (λ j h z. slotOf (slotIn slots j) (getD (e z) j []) (getD (f z) j []))
 
--- the end of an event: the rows are swept
-pub ends : (s : Server) (slots slots′ before after : List ℕ) (k now : ℕ) (x : Slot) → k < 8 → IsPut k x slots slots′
-    → memoryOf after ≡ withRows (swept (rowsIn before)) (memoryOf before)
-    → serverOf (record { settings = s .settings; time = now }) slots′ after ≡ ended k now (slotWith x k before) (serverOf s slots before)
-ends s slots slots′ before after k now x h p e =
+-- the end of an event: the rows may be swept
+pub ends : (sweep : Bool) (s : Server) (slots slots′ before after : List ℕ) (k now : ℕ) (x : Slot) → k < 8 → IsPut k x slots slots′
+    → memoryOf after ≡ withRows (sweptIf sweep (rowsIn before)) (memoryOf before)
+    → serverOf (record { settings = s .settings; time = now }) slots′ after ≡ ended sweep k now (slotWith x k before) (serverOf s slots before)
+ends sweep s slots slots′ before after k now x h p e =
     let qs : memoryOf after .requests ≡ memoryOf before .requests = ap (λ (m : Memory). m .requests) e in
     let ks : memoryOf after .kept ≡ memoryOf before .kept = ap (λ (m : Memory). m .kept) e in
     let put : slotsOf slots′ after ≡ lists.set (slotsOf slots before) k (slotWith x k before) =
@@ -77,7 +77,7 @@ ends s slots slots′ before after k now x h p e =
       settings = settingsOf (s .settings);
       time = now;
       slots = put z;
-      rows = rows-are before after (swept (rowsIn before)) e z;
+      rows = rows-are before after (sweptIf sweep (rowsIn before)) e z;
     }
 
 -- but for slot k
@@ -101,50 +101,63 @@ module _ {k : ℕ} {slot : rules.Slot} {rows : List Row} {before after : List �
       ∙ ap (lists.set (slotsOf slots before) k) (left-slot l h)
 
   -- the end of an event in slot k
-  pub closes : (s r : Server) (slots slots′ : List ℕ) (now : ℕ) (last : List ℕ) → serverOf r slots′ last ≡ ended k now (slotWith x k after) (serverOf s slots after)
-      → serverOf r slots′ last ≡ record { settings = settingsOf (s .settings); time = now; slots = lists.set (slotsOf slots before) k slot; rows = swept rows }
-  closes s r slots slots′ now last e =
-      e ∙ (λ z. record { settings = settingsOf (s .settings); time = now; slots = slots-left slots z; rows = swept (left-rows l z) })
+  pub closes : (changes : Bool) (s r : Server) (slots slots′ : List ℕ) (now : ℕ) (last : List ℕ)
+      → serverOf r slots′ last ≡ ended (sweepsAt changes slots k x) k now (slotWith x k after) (serverOf s slots after)
+      → serverOf r slots′ last ≡ record {
+        settings = settingsOf (s .settings);
+        time = now;
+        slots = lists.set (slotsOf slots before) k slot;
+        rows = sweptIf (changes || enters (slotIn slots k .link .alignment) (slot .link .alignment)) rows;
+      }
+  closes changes s r slots slots′ now last e =
+      e ∙ (λ z. record {
+        settings = settingsOf (s .settings);
+        time = now;
+        slots = slots-left slots z;
+        rows = sweptIf (changes || enters (slotIn slots k .link .alignment) (left-slot l h z .link .alignment)) (left-rows l z);
+      })
 
 -- ---- an event in slot k acts: the slot that it leaves, and the rows
 -- y is the slot after it, rows those that it changed
-abbrev pub actedIn : ℕ → ℕ → rules.Slot → rules.Slot → List Row → rules.Server → rules.Server
-actedIn k now x y rows s = record {
+abbrev pub actedIn : Bool → ℕ → ℕ → rules.Slot → rules.Slot → List Row → rules.Server → rules.Server
+actedIn changes k now x y rows s = record {
   settings = s .settings;
   time = now;
   slots = lists.set (s .slots) k y;
-  rows = swept (clearedIf (enters (x .link .alignment) (y .link .alignment)) k rows);
+  rows = sweptIf (changes || enters (x .link .alignment) (y .link .alignment)) (clearedIf (enters (x .link .alignment) (y .link .alignment)) k rows);
 }
 
-place-acted : (s : rules.Server) (e : Event) (k : ℕ) → k < length (s .slots) → placeOf e ≡ inSlot k
-    → acted s e ≡ actedIn k (timeAfter e (s .time)) (slotAt s k) (slotAfter e (s .settings) (liveIn (s .slots)) (s .rows) (slotAt s k))
+place-acted : (s : rules.Server) (e : Event) (k : ℕ) → k < length (s .slots) → placeOf e ≡ inSlot k → emptiesIn e ≡ inSlot k
+    → acted s e ≡ actedIn (changesRows e) k (timeAfter e (s .time)) (slotAt s k) (slotAfter e (s .settings) (liveIn (s .slots)) (s .rows) (slotAt s k))
     (rowsChanged e (s .settings) (liveIn (s .slots)) (s .rows)) s
 unfolding acted
-place-acted s e k h p =
+place-acted s e k h p w =
     let y : rules.Slot = slotAfter e (s .settings) (liveIn (s .slots)) (s .rows) (slotAt s k) in
     let rows : List Row = rowsChanged e (s .settings) (liveIn (s .slots)) (s .rows) in
     let at : List rules.Slot → rules.Slot → rules.Server = λ slots z. record {
       settings = s .settings;
       time = timeAfter e (s .time);
       slots = slots;
-      rows = swept (clearedIf (enters (slotAt s k .link .alignment) (z .link .alignment)) k rows);
+      rows =
+          sweptIf (changesRows e || enters (slotAt s k .link .alignment) (z .link .alignment))
+          (clearedIf (enters (slotAt s k .link .alignment) (z .link .alignment)) k rows);
     } in
-    ap (λ (q : Place). record {
+    (λ i. record {
       settings = s .settings;
       time = timeAfter e (s .time);
-      slots = slotsAfter q e s;
-      rows = swept (cleared q (s .slots) (slotsAfter q e s) rows);
-    }) p
+      slots = slotsAfter (p i) e s;
+      rows = sweptIf (changesRows e || entersAt (w i) (s .slots) (slotsAfter (p i) e s)) (cleared (w i) (s .slots) (slotsAfter (p i) e s) rows);
+    })
     ∙ ap (at (lists.set (s .slots) k y)) (getD-set-same (s .slots) k y freshSlot h)
 
-pub acted-in : (s : Server) (slots m : List ℕ) (e : Event) (k : ℕ) → k < 8 → placeOf e ≡ inSlot k
-    → acted (serverOf s slots m) e ≡ actedIn k (timeAfter e (s .time)) (slotNow slots k m)
+pub acted-in : (s : Server) (slots m : List ℕ) (e : Event) (k : ℕ) → k < 8 → placeOf e ≡ inSlot k → emptiesIn e ≡ inSlot k
+    → acted (serverOf s slots m) e ≡ actedIn (changesRows e) k (timeAfter e (s .time)) (slotNow slots k m)
     (slotAfter e (settingsOf (s .settings)) (liveIn (slotsOf slots m)) (rowsIn m) (slotNow slots k m))
     (rowsChanged e (settingsOf (s .settings)) (liveIn (slotsOf slots m)) (rowsIn m)) (serverOf s slots m)
-acted-in s slots m e k h p =
+acted-in s slots m e k h p w =
     let n : length (slotsOf slots m) ≡ 8 = slots-eight slots m in
-    place-acted (serverOf s slots m) e k (omega arith) p
-    ∙ ap (λ (x : rules.Slot). actedIn k (timeAfter e (s .time)) x
+    place-acted (serverOf s slots m) e k (omega arith) p w
+    ∙ ap (λ (x : rules.Slot). actedIn (changesRows e) k (timeAfter e (s .time)) x
     (slotAfter e (settingsOf (s .settings)) (liveIn (slotsOf slots m)) (rowsIn m) x)
     (rowsChanged e (settingsOf (s .settings)) (liveIn (slotsOf slots m)) (rowsIn m)) (serverOf s slots m)) (slot-of s slots m k h)
 
@@ -156,22 +169,23 @@ LeavesBy e s slots k x before after r =
     (rowsChanged e (settingsOf (s .settings)) (liveIn (slotsOf slots before)) (rowsIn before))) before after r
 
 -- so the server at its end is that of the event
-pub closes-acted : (s r : Server) (slots slots′ before after last : List ℕ) (e : Event) (k now : ℕ) (y : Slot) → k < 8 → placeOf e ≡ inSlot k
+pub closes-acted : (s r : Server) (slots slots′ before after last : List ℕ) (e : Event) (k now : ℕ) (y : Slot) → k < 8 → placeOf e ≡ inSlot k → emptiesIn e ≡ inSlot k
     → now ≡ timeAfter e (s .time) → LeavesBy e s slots k (slotIn slots k) before after y
-    → serverOf r slots′ last ≡ ended k now (slotWith y k after) (serverOf s slots after) → serverOf r slots′ last ≡ acted (serverOf s slots before) e
-closes-acted s r slots slots′ before after last e k now y h p t l c =
+    → serverOf r slots′ last ≡ ended (sweepsAt (changesRows e) slots k y) k now (slotWith y k after) (serverOf s slots after)
+    → serverOf r slots′ last ≡ acted (serverOf s slots before) e
+closes-acted s r slots slots′ before after last e k now y h p w t l c =
     let new : rules.Slot = slotAfter e (settingsOf (s .settings)) (liveIn (slotsOf slots before)) (rowsIn before) (slotNow slots k before) in
     let rows : List Row = rowsChanged e (settingsOf (s .settings)) (liveIn (slotsOf slots before)) (rowsIn before) in
-    closes l h s r slots slots′ now last c
-    ∙ ap (λ (u : ℕ). actedIn k u (slotNow slots k before) new rows (serverOf s slots before)) t
-    ∙ sym (acted-in s slots before e k h p)
+    closes l h (changesRows e) s r slots slots′ now last c
+    ∙ ap (λ (u : ℕ). actedIn (changesRows e) k u (slotNow slots k before) new rows (serverOf s slots before)) t
+    ∙ sym (acted-in s slots before e k h p w)
 
 module _ (s : Server) (slots before after : List ℕ) (e : Event) (k : ℕ) (x : Slot) (q : x ≡ slotIn slots k) where
   pub leaves-at : (y : Slot) → LeavesBy e s slots k x before after y → LeavesBy e s slots k (slotIn slots k) before after y
   leaves-at y l = subst (λ (u : Slot). LeavesBy e s slots k u before after y) q l
 
-  pub ends-acted : (slots′ last : List ℕ) (now : ℕ) (a : Acted) (r : Answer) → k < 8 → placeOf e ≡ inSlot k → now ≡ timeAfter e (s .time)
-      → LeavesBy e s slots k x before after (a .slot) → Ends s slots slots′ k now a after last r
+  pub ends-acted : (slots′ last : List ℕ) (now : ℕ) (a : Acted) (r : Answer) → k < 8 → placeOf e ≡ inSlot k → emptiesIn e ≡ inSlot k → now ≡ timeAfter e (s .time)
+      → LeavesBy e s slots k x before after (a .slot) → Ends (changesRows e) s slots slots′ k now a after last r
       → serverOf (r .server) slots′ last ≡ acted (serverOf s slots before) e
-  ends-acted slots′ last now a r h p t l c =
-      closes-acted s (r .server) slots slots′ before after last e k now (a .slot) h p t (leaves-at (a .slot) l) (c .server)
+  ends-acted slots′ last now a r h p w t l c =
+      closes-acted s (r .server) slots slots′ before after last e k now (a .slot) h p w t (leaves-at (a .slot) l) (c .server)

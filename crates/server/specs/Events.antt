@@ -7,20 +7,19 @@ use mathlib.Core.List.{List, []}
 use lib.Dec.{eqb}
 use lib.ListN as lists
 use Rattle.laws.specs.Choice.{pick}
-use Rattle.protocol.specs.declared.Alignment.the-variants.{Down}
 use Rattle.protocol.specs.Messages.{Message}
 use Rattle.protocol.specs.Reading.{Reading}
 use Rattle.rules.specs.Server as rules
 use Rattle.rules.specs.Server.{Row, isUsed}
 use Rattle.rules.specs.Links.{enters}
-use Rattle.rules.specs.Rows.{clearedIf, swept}
+use Rattle.rules.specs.Rows.{clearedIf, sweptIf}
 use Rattle.rules.specs.Sent.{octetsOf}
 use Rattle.rules.specs.Packets.{slotOn, rowsOn, sentOn}
 use Rattle.rules.specs.Poll.{pollSent}
-use Rattle.rules.specs.Refusals.{isHello, readingCode, isMalformedHello, rowSpent, rowPurged, rowEmpty}
+use Rattle.rules.specs.Refusals.{isHello, readingCode, isHelloType, rowSpent, rowPurged, rowEmpty}
 use Rattle.rules.specs.Events as events
-use Rattle.rules.specs.Events.{liveIn, upSlot, readSlot, readRows, readSent, acted}
-use Rattle.memory.specs.Memory.{rowsIn, memoryOf}
+use Rattle.rules.specs.Events.{liveIn, upSlot, readSlot, readRows, readChanges, readSent, acted}
+use Rattle.memory.specs.Memory.{rowsIn}
 use Rattle.wire.specs.declared.read.Head.{Head}
 use Rattle.wire.specs.Views.{messageOf}
 use Rattle.records.specs.Walks.{Walks}
@@ -60,7 +59,7 @@ slotNow slots k memory = slotWith (slotIn slots k) k memory
 abbrev pub countsAs : Reading → List ℕ → Server → List ℕ → ℕ → List ℕ → Bool
 countsAs m p s slots k memory =
     let c = readingCode (settingsOf (s .settings)) (slotNow slots k memory) m in
-    eqb c 0 || (eqb c 10 && isMalformedHello p m)
+    eqb c 0 || (eqb c 10 && isHelloType p)
 
 abbrev pub readServer : Reading → ℕ → ℕ → Server → List ℕ → List ℕ → rules.Server
 readServer m k now s slots memory =
@@ -70,7 +69,9 @@ readServer m k now s slots memory =
       settings = settingsOf (s .settings);
       time = now;
       slots = lists.set (slotsOf slots memory) k y;
-      rows = swept (clearedIf (enters (slotNow slots k memory .link .alignment) (y .link .alignment)) k (readRows m live k (rowsIn memory)));
+      rows =
+          sweptIf (readChanges m || enters (slotNow slots k memory .link .alignment) (y .link .alignment))
+          (clearedIf (enters (slotNow slots k memory .link .alignment) (y .link .alignment)) k (readRows m live k (rowsIn memory)));
     }
 
 abbrev pub readOctets : Reading → ℕ → Server → List ℕ → List ℕ → List ℕ
@@ -94,11 +95,3 @@ abbrev pub Ups : ℕ → Slot → List ℕ → List ℕ → Slot → Type 0
 Ups k x before after r =
     let y = upSlot (slotWith x k before) in
     Leaves k y (clearedIf (enters (x .link .alignment) (y .link .alignment)) k (rowsIn before)) before after r
-
-abbrev pub Clears : ℕ → Slot → List ℕ → List ℕ → Type 0
-Clears k x before after =
-    memoryOf after ≡ record {
-      rows = clearedIf (enters (x .link .alignment) Down) k (rowsIn before);
-      requests = lists.set (memoryOf before .requests) k [];
-      kept = lists.set (memoryOf before .kept) k [];
-    }

@@ -2,19 +2,19 @@
 -- Assumes nothing.
 use mathlib.Core.List.{[]}
 use lib.IntN.{pos}
-use Rattle.protocol.specs.Numbers.{csa}
+use Rattle.protocol.specs.Numbers.{csaNumber}
 use Rattle.rules.specs.Server.{Entry, Value, Row, free, used}
 
 abbrev pub noEntry : Entry
 noEntry = record { key = []; originator = [] }
 
 abbrev pub noValue : Value
-noValue = record { number = csa (pos 0); payload = []; remaining = 0 }
+noValue = record { number = csaNumber (pos 0); payload = []; remaining = 0 }
 
-abbrev pub entryOf : Row → Entry
-entryOf free = noEntry
-entryOf (used e v m) = e
+abbrev pub entryShown : Row → Entry
+entryShown free = noEntry
+entryShown (used e v m) = e
 
-abbrev pub valueOf : Row → Value
-valueOf free = noValue
-valueOf (used e v m) = v
+abbrev pub valueShown : Row → Value
+valueShown free = noValue
+valueShown (used e v m) = v

@@ -2,7 +2,7 @@
 -- Assumes nothing.
 use Prim.Native.Nat.{ℕ}
 use mathlib.Core.Path.{_≡_}
-use mathlib.Core.Bool.{Bool, true, false}
+use mathlib.Core.Bool.{Bool, true, false, _||_}
 use mathlib.Core.List.{List}
 use lib.ListN.{length}
 use lib.ListN as lists
@@ -11,10 +11,13 @@ use Rattle.laws.specs.Tables.{on}
 use Rattle.laws.specs.Puts.{written}
 use Rattle.rules.specs.Server as rules
 use Rattle.rules.specs.Server.{slotsMost, settingsCode}
-use Rattle.rules.specs.Rows.{swept}
+use Rattle.rules.specs.Links.{enters}
+use Rattle.rules.specs.Rows.{sweptIf}
 use Rattle.rules.specs.Events.{Event, codeOf, counts, step, writtenAt}
+use Rattle.rules.specs.Typed.{TypedSettings, TypedEvent}
 use Rattle.memory.specs.Memory.{rowsIn}
 use Rattle.slots.specs.declared.state.Settings.{Settings}
+use Rattle.slots.specs.declared.state.Slot.{Slot}
 use Rattle.slots.specs.declared.state.Server.{Server}
 use Rattle.slots.specs.declared.answers.Outcome.the-variants.{Taken}
 use Rattle.slots.specs.Codes.{codeNumber}
@@ -37,25 +40,36 @@ serverOf s slots memory = record {
   rows = rowsIn memory;
 }
 
--- ---- the contract of an event: the code, the server, its slots and its memory are those of the step, and a refusal leaves all of them as
--- they came, but for the malformed Hello
-pub record Does (e : Event) (s : Server) (slots slots′ before after : List ℕ) (r : Answer) : Type 0 where
+-- ---- what an event does: the code, the server, its slots and its memory are those of the step, and a refusal leaves all of them as they
+-- came, but for the malformed Hello. After an event that counts each word and octet is the program's choice, and every choice has its
+-- meaning in common: `serverOf`.
+pub record Steps (e : Event) (s : Server) (slots slots′ before after : List ℕ) (r : Answer) : Type 0 where
   pub code : codeNumber (r .outcome) ≡ codeOf (serverOf s slots before) e
   pub server : serverOf (r .server) slots′ after ≡ step (serverOf s slots before) e
   pub size : r .written ≡ length (writtenAt (serverOf s slots before) e)
   pub same : counts e (codeOf (serverOf s slots before) e) ≡ false → (r .server ≡ s) × ((slots′ ≡ slots) × (after ≡ before))
 
--- an event with an out buffer: what is written is at its start, the octets after it stay
-pub record DoesOut (e : Event) (s : Server) (slots slots′ before after out out′ : List ℕ) (r : Answer) : Type 0 where
-  pub does : Does e s slots slots′ before after r
+-- with an out buffer: what is written is at its start, the octets after it stay
+pub record StepsOut (e : Event) (s : Server) (slots slots′ before after out out′ : List ℕ) (r : Answer) : Type 0 where
+  pub steps : Steps e s slots slots′ before after r
   pub octets : out′ ≡ written (writtenAt (serverOf s slots before) e) out
 
--- settings taken, or refused with the slots and the memory as they came
+-- ---- the contract of an event function: what it does, at arguments that are octets and times of 32 bits
+pub record Does (e : Event) (s : Server) (slots slots′ before after : List ℕ) (r : Answer) : Type 0 where
+  pub steps : Steps e s slots slots′ before after r
+  pub typed : TypedEvent e
+
+pub record DoesOut (e : Event) (s : Server) (slots slots′ before after out out′ : List ℕ) (r : Answer) : Type 0 where
+  pub steps : StepsOut e s slots slots′ before after out out′ r
+  pub typed : TypedEvent e
+
+-- settings taken, or refused with the slots and the memory as they came; the server that is answered then is the program's choice
 pub record Starts (s : Settings) (slots slots′ before after : List ℕ) (r : Answer) : Type 0 where
   pub code : codeNumber (r .outcome) ≡ settingsCode (settingsOf s)
   pub server : settingsCode (settingsOf s) ≡ 0 → serverOf (r .server) slots′ after ≡ rules.fresh (settingsOf s)
   pub size : r .written ≡ 0
   pub same : (settingsCode (settingsOf s) ≡ 0 → ⊥) → (slots′ ≡ slots) × (after ≡ before)
+  pub typed : TypedSettings (settingsOf s)
 
 -- ---- below the events
 abbrev pub markedIf : Bool → ℕ → (ℕ → Bool) → ℕ → Bool
@@ -63,11 +77,15 @@ markedIf true k m = on k true m
 markedIf false k m = m
 
 -- the end of an event in slot k
-abbrev pub ended : ℕ → ℕ → rules.Slot → rules.Server → rules.Server
-ended k now x s = record { settings = s .settings; time = now; slots = lists.set (s .slots) k x; rows = swept (s .rows) }
+abbrev pub ended : Bool → ℕ → ℕ → rules.Slot → rules.Server → rules.Server
+ended sweep k now x s = record { settings = s .settings; time = now; slots = lists.set (s .slots) k x; rows = sweptIf sweep (s .rows) }
+
+-- rows may have been changed, or slot k, left as x, has had its waiting list emptied
+abbrev pub sweepsAt : Bool → List ℕ → ℕ → Slot → Bool
+sweepsAt changes slots k x = changes || enters (slotIn slots k .link .alignment) (x .link .alignment)
 
 -- the end of a taken event
-pub record Ends (s : Server) (slots slots′ : List ℕ) (k now : ℕ) (a : Acted) (before after : List ℕ) (r : Answer) : Type 0 where
-  pub server : serverOf (r .server) slots′ after ≡ ended k now (slotWith (a .slot) k before) (serverOf s slots before)
+pub record Ends (changes : Bool) (s : Server) (slots slots′ : List ℕ) (k now : ℕ) (a : Acted) (before after : List ℕ) (r : Answer) : Type 0 where
+  pub server : serverOf (r .server) slots′ after ≡ ended (sweepsAt changes slots k (a .slot)) k now (slotWith (a .slot) k before) (serverOf s slots before)
   pub outcome : r .outcome ≡ Taken
   pub written : r .written ≡ a .written

@@ -1,15 +1,17 @@
 // The end of an event, and the slots that puts go to.
 ghost use mathlib.Core.Path.{_≡_};
+ghost use mathlib.Core.Bool.{_||_};
 ghost use mathlib.Core.List.{List};
 ghost use Prim.Native.Nat.{ℕ, _<_};
 ghost use lib.ListN.{length};
 ghost use Rattle.rules.specs.Links as links;
+ghost use Rattle.rules.specs.Rows.{sweptIf};
 ghost use Rattle.rules.specs.Events.{liveIn};
 ghost use Rattle.memory.specs.Layout.{memorySize};
-ghost use Rattle.memory.specs.Memory.{isMarked};
+ghost use Rattle.memory.specs.Memory.{isMarked, rowsIn, memoryOf, withRows};
 ghost use Rattle.actions.specs.Parts.{slotWith};
 ghost use Rattle.table.specs.Words.{tableSize, slotIn};
-ghost use Rattle.server.specs.State.{slotsOf, serverOf, markedIf, ended, Ends};
+ghost use Rattle.server.specs.State.{slotsOf, serverOf, markedIf, ended, sweepsAt, Ends};
 use crate::answers::Answer;
 use actions::parts::Acted;
 use memory::marks;
@@ -44,7 +46,27 @@ pub fn live_of(slots: &[usize]) -> u8
     b
 }
 
-// The end of an event: purged rows that wait for nobody are freed, and the slot is put back.
+// ---- the end of an event
+fn either(a: bool, b: bool) -> bool
+    ensures { λ r. ⌜ r ≡ (a || b) ⌝ }
+{
+    if a {
+        return true;
+    }
+    b
+}
+
+// Purged rows that wait for nobody are freed.
+fn sweep_if(memory: &mut [u8], sweep: bool)
+    requires { ⌜ length (now memory) ≡ memorySize ⌝ }
+    ensures { λ _. ⌜ memoryOf (now (memory .exit)) ≡ withRows (sweptIf sweep (rowsIn (now (memory .entry)))) (memoryOf (now (memory .entry))) ⌝ }
+{
+    if sweep {
+        store::sweep(memory);
+    }
+}
+
+// The slot is put back, the rows swept where some may have been changed or a waiting list emptied.
 pub fn finish(
     s: Server,
     slots: &mut [usize],
@@ -52,11 +74,15 @@ pub fn finish(
     k: usize,
     x: Slot,
     time: u32,
+    changes: bool,
 ) -> Server
     requires { ⌜ (length (now slots) ≡ tableSize) × ((length (now memory) ≡ memorySize) × (k < 8)) ⌝ }
-    ensures { λ r. ⌜ serverOf r (now (slots .exit)) (now (memory .exit)) ≡ ended k time (slotWith x k (now (memory .entry))) (serverOf s (now (slots .entry)) (now (memory .entry))) ⌝ }
+    ensures { λ r. ⌜ serverOf r (now (slots .exit)) (now (memory .exit)) ≡ ended (sweepsAt changes (now (slots .entry)) k x) k time (slotWith x k (now (memory .entry))) (serverOf s (now (slots .entry)) (now (memory .entry))) ⌝ }
 {
-    store::sweep(memory);
+    let link = x.link;
+    let to = link.alignment;
+    let entered = alignment::enters(table::alignment_at(slots, k), to);
+    sweep_if(memory, either(changes, entered));
     table::put_slot(slots, k, x);
     let mut server = s;
     server.time = time;
@@ -70,13 +96,14 @@ pub fn taken(
     memory: &mut [u8],
     k: usize,
     time: u32,
+    changes: bool,
     acted: Acted,
 ) -> Answer
     requires { ⌜ (length (now slots) ≡ tableSize) × ((length (now memory) ≡ memorySize) × (k < 8)) ⌝ }
-    ensures { λ r. ⌜ Ends s (now (slots .entry)) (now (slots .exit)) k time acted (now (memory .entry)) (now (memory .exit)) r ⌝ }
+    ensures { λ r. ⌜ Ends changes s (now (slots .entry)) (now (slots .exit)) k time acted (now (memory .entry)) (now (memory .exit)) r ⌝ }
 {
     let x = acted.slot;
-    let server = finish(s, slots, memory, k, x, time);
+    let server = finish(s, slots, memory, k, x, time, changes);
     let outcome = Outcome::Taken;
     Answer {
         server,

@@ -1,4 +1,5 @@
-// The events, for any server, table of slots, memory, octets, slot and time. `Does` says what each leaves and answers.
+// The events, for any server, table of slots, memory, octets, slot and time. `Does` says what each leaves and answers. That octets are below
+// 256 is part of it, by `octets::bounded`.
 ghost use lib.ListN.{length};
 ghost use Rattle.rules.specs.Events as events;
 ghost use Rattle.server.specs.State.{Does, DoesOut, Starts};
@@ -27,6 +28,7 @@ pub fn add_peer(
 ) -> Answer
     ensures { λ r. ⌜ Does (events.addPeer slot (now (id .entry))) s (now (slots .entry)) (now (slots .exit)) (now (memory .entry)) (now (memory .exit)) r ⌝ }
 {
+    octets::bounded(id);
     peers::add_peer(s, slots, memory, slot, id)
 }
 
@@ -60,12 +62,13 @@ pub fn packet(
     memory: &mut [u8; 20800],
     slot: usize,
     time: u32,
-    octets: &[u8],
+    p: &[u8],
     out: &mut [u8],
 ) -> Answer
-    ensures { λ r. ⌜ DoesOut (events.packet slot time (now (octets .entry)) (length (now (out .entry)))) s (now (slots .entry)) (now (slots .exit)) (now (memory .entry)) (now (memory .exit)) (now (out .entry)) (now (out .exit)) r ⌝ }
+    ensures { λ r. ⌜ DoesOut (events.packet slot time (now (p .entry)) (length (now (out .entry)))) s (now (slots .entry)) (now (slots .exit)) (now (memory .entry)) (now (memory .exit)) (now (out .entry)) (now (out .exit)) r ⌝ }
 {
-    packet::packet(s, slots, memory, slot, time, octets, out)
+    octets::bounded(p);
+    packet::packet(s, slots, memory, slot, time, p, out)
 }
 
 pub fn poll(
@@ -90,17 +93,21 @@ pub fn set(
 ) -> Answer
     ensures { λ r. ⌜ Does (events.set (now (key .entry)) (now (payload .entry))) s (now (slots .entry)) (now (slots .entry)) (now (memory .entry)) (now (memory .exit)) r ⌝ }
 {
+    octets::bounded(key);
+    octets::bounded(payload);
     own::set(s, slots, memory, key, payload)
 }
 
 pub fn withdraw(s: Server, slots: &[usize; 192], memory: &mut [u8; 20800], key: &[u8]) -> Answer
     ensures { λ r. ⌜ Does (events.withdraw (now (key .entry))) s (now (slots .entry)) (now (slots .entry)) (now (memory .entry)) (now (memory .exit)) r ⌝ }
 {
+    octets::bounded(key);
     own::withdraw(s, slots, memory, key)
 }
 
 pub fn purge(s: Server, slots: &[usize; 192], memory: &mut [u8; 20800], key: &[u8]) -> Answer
     ensures { λ r. ⌜ Does (events.purge (now (key .entry))) s (now (slots .entry)) (now (slots .entry)) (now (memory .entry)) (now (memory .exit)) r ⌝ }
 {
+    octets::bounded(key);
     own::purge(s, slots, memory, key)
 }

@@ -7,7 +7,7 @@ ghost use Rattle.rules.specs.Links as links;
 ghost use Rattle.memory.specs.Layout.{memorySize};
 ghost use Rattle.table.specs.Words.{tableSize};
 ghost use Rattle.actions.specs.Parts.{Moves};
-ghost use Rattle.server.specs.State.{Does};
+ghost use Rattle.server.specs.State.{Steps};
 ghost use Rattle.server.specs.Events.{Ups};
 use crate::answers;
 use crate::answers::Answer;
@@ -36,13 +36,13 @@ fn up(memory: &mut [u8], k: usize, x: Slot) -> Slot
 
 pub fn link_up(s: Server, slots: &mut [usize], memory: &mut [u8], k: usize, time: u32) -> Answer
     requires { ⌜ (length (now slots) ≡ tableSize) × (length (now memory) ≡ memorySize) ⌝ }
-    ensures { λ r. ⌜ Does (events.linkUp k time) s (now (slots .entry)) (now (slots .exit)) (now (memory .entry)) (now (memory .exit)) r ⌝ }
+    ensures { λ r. ⌜ Steps (events.linkUp k time) s (now (slots .entry)) (now (slots .exit)) (now (memory .entry)) (now (memory .exit)) r ⌝ }
 {
     match answers::link_code(s, slots, k, time) {
         Outcome::Refused(f) => answers::refuse(s, f),
         Outcome::Taken => {
             let x = up(memory, k, table::slot_at(slots, k));
-            ends::taken(s, slots, memory, k, time, parts::silent(x))
+            ends::taken(s, slots, memory, k, time, false, parts::silent(x))
         }
     }
 }
@@ -57,13 +57,13 @@ fn down(memory: &mut [u8], k: usize, x: Slot) -> Slot
 
 pub fn link_down(s: Server, slots: &mut [usize], memory: &mut [u8], k: usize, time: u32) -> Answer
     requires { ⌜ (length (now slots) ≡ tableSize) × (length (now memory) ≡ memorySize) ⌝ }
-    ensures { λ r. ⌜ Does (events.linkDown k time) s (now (slots .entry)) (now (slots .exit)) (now (memory .entry)) (now (memory .exit)) r ⌝ }
+    ensures { λ r. ⌜ Steps (events.linkDown k time) s (now (slots .entry)) (now (slots .exit)) (now (memory .entry)) (now (memory .exit)) r ⌝ }
 {
     match answers::link_code(s, slots, k, time) {
         Outcome::Refused(f) => answers::refuse(s, f),
         Outcome::Taken => {
             let x = down(memory, k, table::slot_at(slots, k));
-            ends::taken(s, slots, memory, k, time, parts::silent(x))
+            ends::taken(s, slots, memory, k, time, false, parts::silent(x))
         }
     }
 }

@@ -3,7 +3,7 @@ ghost use mathlib.Core.Path.{_≡_};
 ghost use mathlib.Core.List.{List};
 ghost use mathlib.Core.Bool.{true};
 ghost use Rattle.protocol.specs.Numbers as numbers;
-ghost use Rattle.rules.specs.Rows.{swept};
+ghost use Rattle.rules.specs.Rows.{entryRow, swept};
 ghost use Rattle.rules.specs.Updates.{setRows, withdrawRows, purgeRows};
 ghost use Rattle.rules.specs.Refusals.{ownEntry};
 ghost use Rattle.rules.specs.Events.{liveIn};
@@ -20,7 +20,7 @@ ghost use Rattle.table.specs.Words.{tableSize};
 ghost use Rattle.memory.specs.Memory.{rowIn, rowsIn};
 ghost use Rattle.memory.specs.Search.{entry};
 ghost use Rattle.slots.specs.Codes.{codeNumber};
-ghost use Rattle.server.specs.State.{slotsOf, serverOf, Does};
+ghost use Rattle.server.specs.State.{slotsOf, serverOf, Steps};
 ghost use Rattle.rules.specs.Server.{isUsed};
 ghost use Rattle.server.specs.Events.{ownOf};
 use crate::answers;
@@ -66,7 +66,7 @@ fn own_at(memory: &[u8], i: usize) -> Own
 
 fn own_of(memory: &[u8], key: &[u8], id: &[u8]) -> Own
     requires { ⌜ length (now memory) ≡ memorySize ⌝ }
-    ensures { λ r. ⌜ r ≡ ownOf (rules.firstRow (entry (now (key .entry)) (now (id .entry))) (rowsIn (now (memory .entry)))) ⌝ }
+    ensures { λ r. ⌜ r ≡ ownOf (entryRow (entry (now (key .entry)) (now (id .entry))) (rowsIn (now (memory .entry)))) ⌝ }
 {
     match rows::find(memory, key, id) {
         Found::At(i) => own_at(memory, i),
@@ -80,7 +80,7 @@ fn own_of(memory: &[u8], key: &[u8], id: &[u8]) -> Own
 }
 
 fn key_good(key: &[u8]) -> bool
-    ensures { λ r. ⌜ r ≡ rules.keyGood (now (key .entry)) ⌝ }
+    ensures { λ r. ⌜ r ≡ rules.ownKeyGood (now (key .entry)) ⌝ }
 {
     if key.len() == 0 {
         return false;
@@ -89,7 +89,7 @@ fn key_good(key: &[u8]) -> bool
 }
 
 fn payload_good(payload: &[u8]) -> bool
-    ensures { λ r. ⌜ r ≡ rules.payloadGood (now (payload .entry)) ⌝ }
+    ensures { λ r. ⌜ r ≡ rules.ownPayloadGood (now (payload .entry)) ⌝ }
 {
     if payload.len() == 0 {
         return false;
@@ -135,7 +135,7 @@ fn set_taken(s: Server, slots: &[usize], memory: &mut [u8], key: &[u8], payload:
 
 pub fn set(s: Server, slots: &[usize], memory: &mut [u8], key: &[u8], payload: &[u8]) -> Answer
     requires { ⌜ (length (now slots) ≡ tableSize) × (length (now memory) ≡ memorySize) ⌝ }
-    ensures { λ r. ⌜ Does (events.set (now (key .entry)) (now (payload .entry))) s (now (slots .entry)) (now (slots .entry)) (now (memory .entry)) (now (memory .exit)) r ⌝ }
+    ensures { λ r. ⌜ Steps (events.set (now (key .entry)) (now (payload .entry))) s (now (slots .entry)) (now (slots .entry)) (now (memory .entry)) (now (memory .exit)) r ⌝ }
 {
     match set_code(s, memory, key, payload) {
         Outcome::Refused(f) => answers::refuse(s, f),
@@ -178,7 +178,7 @@ fn withdraw_taken(s: Server, slots: &[usize], memory: &mut [u8], key: &[u8])
 
 pub fn withdraw(s: Server, slots: &[usize], memory: &mut [u8], key: &[u8]) -> Answer
     requires { ⌜ (length (now slots) ≡ tableSize) × (length (now memory) ≡ memorySize) ⌝ }
-    ensures { λ r. ⌜ Does (events.withdraw (now (key .entry))) s (now (slots .entry)) (now (slots .entry)) (now (memory .entry)) (now (memory .exit)) r ⌝ }
+    ensures { λ r. ⌜ Steps (events.withdraw (now (key .entry))) s (now (slots .entry)) (now (slots .entry)) (now (memory .entry)) (now (memory .exit)) r ⌝ }
 {
     match withdraw_code(s, memory, key) {
         Outcome::Refused(f) => answers::refuse(s, f),
@@ -221,7 +221,7 @@ fn purge_taken(s: Server, slots: &[usize], memory: &mut [u8], key: &[u8])
 
 pub fn purge(s: Server, slots: &[usize], memory: &mut [u8], key: &[u8]) -> Answer
     requires { ⌜ (length (now slots) ≡ tableSize) × (length (now memory) ≡ memorySize) ⌝ }
-    ensures { λ r. ⌜ Does (events.purge (now (key .entry))) s (now (slots .entry)) (now (slots .entry)) (now (memory .entry)) (now (memory .exit)) r ⌝ }
+    ensures { λ r. ⌜ Steps (events.purge (now (key .entry))) s (now (slots .entry)) (now (slots .entry)) (now (memory .entry)) (now (memory .exit)) r ⌝ }
 {
     match purge_code(s, memory, key) {
         Outcome::Refused(f) => answers::refuse(s, f),

@@ -23,7 +23,7 @@ ghost use Rattle.slots.specs.Codes.{failureNumber, codeNumber};
 ghost use Rattle.slots.specs.State.{settingsOf, slotOf, ruleOf};
 ghost use Rattle.actions.specs.Parts.{slotWith};
 ghost use Rattle.actions.specs.Steps.{caPacketAt};
-ghost use Rattle.server.specs.State.{slotsOf, DoesOut};
+ghost use Rattle.server.specs.State.{slotsOf, StepsOut};
 ghost use Rattle.server.specs.Events.{Reaches, ActsOn, DoesRead};
 use crate::answers;
 use crate::answers::Answer;
@@ -142,6 +142,20 @@ fn live_for(slots: &[usize], h: Head) -> u8
     }
 }
 
+// Whether a packet of this type may change rows.
+fn changes_rows(h: Head) -> bool
+    ensures { λ r. ⌜ ((p : List ℕ) → r ≡ events.bodyChanges (messageOf p h .body)) ⌝ }
+{
+    let k = h.kind;
+    match k {
+        Kind::Ca => false,
+        Kind::CsuRequest => true,
+        Kind::CsuReply => true,
+        Kind::Csus => false,
+        Kind::Hello => false,
+    }
+}
+
 fn act(
     s: Settings,
     memory: &mut [u8],
@@ -191,7 +205,7 @@ fn message(
         Outcome::Taken => {
             let live = live_for(slots, h);
             let acted = act(settings, memory, live, p, h, k, time, x, rule, out);
-            ends::taken(s, slots, memory, k, time, acted)
+            ends::taken(s, slots, memory, k, time, changes_rows(h), acted)
         }
     }
 }
@@ -213,7 +227,7 @@ fn malformed(
     }
     let x = table::slot_at(slots, k);
     let y = actions::hello::take_malformed(memory, k, x);
-    let server = ends::finish(s, slots, memory, k, y, time);
+    let server = ends::finish(s, slots, memory, k, y, time, false);
     answers::refuse(server, Failure::Malformed)
 }
 
@@ -260,7 +274,7 @@ pub fn packet(
     out: &mut [u8],
 ) -> Answer
     requires { ⌜ (length (now slots) ≡ tableSize) × (length (now memory) ≡ memorySize) ⌝ }
-    ensures { λ r. ⌜ DoesOut (events.packet k time (now (p .entry)) (length (now (out .entry)))) s (now (slots .entry)) (now (slots .exit)) (now (memory .entry)) (now (memory .exit)) (now (out .entry)) (now (out .exit)) r ⌝ }
+    ensures { λ r. ⌜ StepsOut (events.packet k time (now (p .entry)) (length (now (out .entry)))) s (now (slots .entry)) (now (slots .exit)) (now (memory .entry)) (now (memory .exit)) (now (out .entry)) (now (out .exit)) r ⌝ }
 {
     match answers::poll_code(s, slots, k, time, out.len()) {
         Outcome::Refused(f) => answers::refuse(s, f),

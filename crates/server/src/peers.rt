@@ -10,26 +10,24 @@ ghost use Rattle.rules.specs.Refusals as rules;
 ghost use Rattle.memory.specs.Layout.{memorySize};
 ghost use Rattle.table.specs.Words.{tableSize, slotIn};
 ghost use Rattle.slots.specs.Codes.{codeNumber};
-ghost use Rattle.server.specs.State.{slotsOf, serverOf, Does, Starts};
-ghost use Rattle.server.specs.Events.{Clears};
+ghost use Rattle.server.specs.State.{slotsOf, serverOf, Steps, Starts};
 use crate::answers;
 use crate::answers::Answer;
-use crate::ends;
 use actions::parts;
 use memory::store;
-use protocol::Alignment;
 use slots::answers::Failure;
 use slots::answers::Outcome;
 use slots::state;
 use slots::state::Server;
 use slots::state::Settings;
-use slots::state::Slot;
 
 // 17 for HelloInterval or DeadFactor 0.
 pub fn start(settings: Settings, slots: &mut [usize], memory: &mut [u8]) -> Answer
     requires { ⌜ length (now memory) ≡ memorySize ⌝ }
     ensures { λ r. ⌜ Starts settings (now (slots .entry)) (now (slots .exit)) (now (memory .entry)) (now (memory .exit)) r ⌝ }
 {
+    let id = settings.id;
+    octets::bounded(&id);
     let server = Server { settings, time: 0 };
     if settings.interval == 0 {
         return answers::refuse(server, Failure::Size);
@@ -93,29 +91,20 @@ fn add_code(s: Server, slots: &[usize], k: usize, id: &[u8]) -> Outcome
     Outcome::Taken
 }
 
-// The slot's part of the memory is emptied.
-fn clear_slot(memory: &mut [u8], k: usize, x: Slot)
-    requires { ⌜ (length (now memory) ≡ memorySize) × (k < 8) ⌝ }
-    ensures { λ _. ⌜ Clears k x (now (memory .entry)) (now (memory .exit)) ⌝ }
-{
-    let l = x.link;
-    let a = l.alignment;
-    parts::empty_lists(memory, k);
-    parts::clear_if(memory, k, slots::alignment::enters(a, Alignment::Down));
-}
-
+// It has no requests, no kept CA, and no row waits for a slot that had no peer.
 fn add_taken(s: Server, slots: &mut [usize], memory: &mut [u8], k: usize, id: &[u8]) -> Server
     requires { ⌜ ((length (now slots) ≡ tableSize) × (length (now memory) ≡ memorySize)) × ((k < 8) × (length (now id) ≡ 4)) ⌝ }
     ensures { λ r. ⌜ serverOf r (now (slots .exit)) (now (memory .exit)) ≡ events.acted (serverOf s (now (slots .entry)) (now (memory .entry))) (events.addPeer k (now (id .entry))) ⌝ }
 {
-    clear_slot(memory, k, table::slot_at(slots, k));
+    parts::empty_lists(memory, k);
     let x = state::peer_slot(records::list::array4(id));
-    ends::finish(s, slots, memory, k, x, s.time)
+    table::put_slot(slots, k, x);
+    s
 }
 
 pub fn add_peer(s: Server, slots: &mut [usize], memory: &mut [u8], k: usize, id: &[u8]) -> Answer
     requires { ⌜ (length (now slots) ≡ tableSize) × (length (now memory) ≡ memorySize) ⌝ }
-    ensures { λ r. ⌜ Does (events.addPeer k (now (id .entry))) s (now (slots .entry)) (now (slots .exit)) (now (memory .entry)) (now (memory .exit)) r ⌝ }
+    ensures { λ r. ⌜ Steps (events.addPeer k (now (id .entry))) s (now (slots .entry)) (now (slots .exit)) (now (memory .entry)) (now (memory .exit)) r ⌝ }
 {
     match add_code(s, slots, k, id) {
         Outcome::Refused(f) => answers::refuse(s, f),

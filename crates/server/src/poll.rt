@@ -5,7 +5,7 @@ ghost use lib.ListN.{length};
 ghost use Rattle.rules.specs.Events as events;
 ghost use Rattle.memory.specs.Layout.{memorySize};
 ghost use Rattle.table.specs.Words.{tableSize};
-ghost use Rattle.server.specs.State.{DoesOut};
+ghost use Rattle.server.specs.State.{StepsOut};
 ghost use Rattle.server.specs.Events.{PollsTaken};
 use crate::answers;
 use crate::answers::Answer;
@@ -28,7 +28,7 @@ fn poll_taken(
     let x = table::slot_at(slots, k);
     let settings = s.settings;
     let acted = poll::poll_slot(settings, memory, k, time, x, out);
-    ends::taken(s, slots, memory, k, time, acted)
+    ends::taken(s, slots, memory, k, time, false, acted)
 }
 
 pub fn poll(
@@ -40,7 +40,7 @@ pub fn poll(
     out: &mut [u8],
 ) -> Answer
     requires { ⌜ (length (now slots) ≡ tableSize) × (length (now memory) ≡ memorySize) ⌝ }
-    ensures { λ r. ⌜ DoesOut (events.poll k time (length (now (out .entry)))) s (now (slots .entry)) (now (slots .exit)) (now (memory .entry)) (now (memory .exit)) (now (out .entry)) (now (out .exit)) r ⌝ }
+    ensures { λ r. ⌜ StepsOut (events.poll k time (length (now (out .entry)))) s (now (slots .entry)) (now (slots .exit)) (now (memory .entry)) (now (memory .exit)) (now (out .entry)) (now (out .exit)) r ⌝ }
 {
     match answers::poll_code(s, slots, k, time, out.len()) {
         Outcome::Refused(f) => answers::refuse(s, f),

@@ -11,7 +11,7 @@ ghost use Rattle.memory.specs.Memory.{rowsIn};
 ghost use Rattle.slots.specs.State.{slotOf};
 ghost use Rattle.slots.specs.declared.state.Server as declared;
 ghost use Rattle.server.specs.State.{serverOf};
-ghost use Rattle.server.specs.Queries.{entryOf, valueOf};
+ghost use Rattle.server.specs.Queries.{entryShown, valueShown};
 use memory::marks;
 use memory::requests;
 use memory::rows;
@@ -84,7 +84,7 @@ pub fn is_used(memory: &[u8; 20800], row: usize) -> bool
 }
 
 pub fn key_of(memory: &[u8; 20800], row: usize) -> &[u8]
-    ensures { λ r. ⌜ now r ≡ entryOf (rowAt (rowsIn (now (memory .entry))) row) .key ⌝ }
+    ensures { λ r. ⌜ now r ≡ entryShown (rowAt (rowsIn (now (memory .entry))) row) .key ⌝ }
 {
     if is_used(memory, row) {
         return rows::key_of(memory, row);
@@ -93,7 +93,7 @@ pub fn key_of(memory: &[u8; 20800], row: usize) -> &[u8]
 }
 
 pub fn originator_of(memory: &[u8; 20800], row: usize) -> &[u8]
-    ensures { λ r. ⌜ now r ≡ entryOf (rowAt (rowsIn (now (memory .entry))) row) .originator ⌝ }
+    ensures { λ r. ⌜ now r ≡ entryShown (rowAt (rowsIn (now (memory .entry))) row) .originator ⌝ }
 {
     if is_used(memory, row) {
         return rows::originator_of(memory, row);
@@ -102,7 +102,7 @@ pub fn originator_of(memory: &[u8; 20800], row: usize) -> &[u8]
 }
 
 pub fn number_of(memory: &[u8; 20800], row: usize) -> CsaNumber
-    ensures { λ r. ⌜ r ≡ valueOf (rowAt (rowsIn (now (memory .entry))) row) .number ⌝ }
+    ensures { λ r. ⌜ r ≡ valueShown (rowAt (rowsIn (now (memory .entry))) row) .number ⌝ }
 {
     if is_used(memory, row) {
         return rows::number_of(memory, row);
@@ -111,7 +111,7 @@ pub fn number_of(memory: &[u8; 20800], row: usize) -> CsaNumber
 }
 
 pub fn payload_of(memory: &[u8; 20800], row: usize) -> &[u8]
-    ensures { λ r. ⌜ now r ≡ valueOf (rowAt (rowsIn (now (memory .entry))) row) .payload ⌝ }
+    ensures { λ r. ⌜ now r ≡ valueShown (rowAt (rowsIn (now (memory .entry))) row) .payload ⌝ }
 {
     if is_used(memory, row) {
         return rows::payload_of(memory, row);
@@ -120,7 +120,7 @@ pub fn payload_of(memory: &[u8; 20800], row: usize) -> &[u8]
 }
 
 pub fn remaining_of(memory: &[u8; 20800], row: usize) -> u16
-    ensures { λ r. ⌜ r ≡ valueOf (rowAt (rowsIn (now (memory .entry))) row) .remaining ⌝ }
+    ensures { λ r. ⌜ r ≡ valueShown (rowAt (rowsIn (now (memory .entry))) row) .remaining ⌝ }
 {
     if is_used(memory, row) {
         return rows::remaining_of(memory, row);

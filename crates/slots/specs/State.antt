@@ -39,7 +39,7 @@ caIn h sender empty = record { head = h; sender = sender; empty = empty }
 
 -- the rule of each case
 abbrev pub ruleOf : CaRule → links.CaRule
-ruleOf Refuse = links.refuse
+ruleOf Refuse = links.refuseCa
 ruleOf BecomeSlave = links.becomeSlave
 ruleOf BecomeMaster = links.becomeMaster
 ruleOf Repeat = links.repeat

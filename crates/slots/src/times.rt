@@ -14,7 +14,8 @@ fn elapsed(now: u32, then: u32) -> u32
     0
 }
 
-fn product(a: u16, b: u16) -> u32
+// The product of two numbers of 16 bits fits 32 bits.
+pub fn product(a: u16, b: u16) -> u32
     ensures { λ r. ⌜ r ≡ a * b ⌝ }
 {
     (a as u32) * (b as u32)

@@ -6,7 +6,7 @@ use mathlib.Core.List.{List, [], _∷_}
 use lib.Dec.{eqb}
 use lib.ListN.{getD}
 use Rattle.laws.specs.Choice.{pick}
-use Rattle.protocol.specs.Numbers.{ca}
+use Rattle.protocol.specs.Numbers.{caNumber}
 use Rattle.protocol.specs.declared.Alignment.{Alignment}
 use Rattle.protocol.specs.declared.Alignment.the-variants as alignment
 use Rattle.protocol.specs.declared.HelloState.{HelloState}
@@ -67,8 +67,8 @@ slotFrom w = record {
     factor = shortIn (w 8);
     alignment = alignmentIn (w 9);
     role = roleIn (w 10);
-    number = ca (numberIn (w 11));
-    last = record { number = ca (numberIn (w 12)); flags = record { master = flagIn (w 13); initial = flagIn (w 14); more = flagIn (w 15) } };
+    number = caNumber (numberIn (w 11));
+    last = record { number = caNumber (numberIn (w 12)); flags = record { master = flagIn (w 13); initial = flagIn (w 14); more = flagIn (w 15) } };
     more = flagIn (w 16);
   };
   timers = record { hello = lastIn (w 17); ca = lastIn (w 18); csus = lastIn (w 19); update = lastIn (w 20) };

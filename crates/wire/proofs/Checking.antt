@@ -14,7 +14,7 @@ use Rattle.protocol.specs.declared.Kind.the-variants.{Ca, CsuRequest, CsuReply,
 use Rattle.protocol.specs.declared.Checked.{Checked}
 use Rattle.protocol.specs.declared.Checked.the-variants.{Fine, Breaks}
 use Rattle.protocol.specs.Sizes.{idLength}
-use Rattle.protocol.specs.Checks.{rule, field, andThen, firstBreak, isHello, commonAt, beforeChecks, plainChecks, lengthChecks, idChecks, headCheck, recordChecks, elementCheck, elementSize, elementsCheck, countAt, elementsAt, afterHead, mandatoryCheck}
+use Rattle.protocol.specs.Checks.{rule, field, andThen, firstBreak, isHelloKind, commonAt, beforeChecks, plainChecks, lengthChecks, idChecks, headCheck, recordChecks, elementCheck, elementSize, elementsCheck, countAt, elementsAt, afterHead, mandatoryCheck}
 
 -- n octets fit behind `at`
 pub shifted : (at n size : ℕ) → at ≤ size → leb n (size - at) ≡ leb (at + n) size
@@ -68,11 +68,11 @@ module _ (k : Kind) (p : List ℕ) where
       ∙ ap (λ (n : ℕ). firstBreak (beforeChecks k p ++ (plainChecks p n ++ (lengthChecks idLength k p n ++ idChecks idLength p n)))) a
 
   -- ---- records and receivers
-  pub of-record : (at : ℕ) → isHello k ≡ false → firstBreak (recordChecks idLength k p at) ≡ elementCheck idLength k p at
+  pub of-record : (at : ℕ) → isHelloKind k ≡ false → firstBreak (recordChecks idLength k p at) ≡ elementCheck idLength k p at
   unfolding elementCheck
   of-record at h = go k h
     where
-      go : (k : Kind) → isHello k ≡ false → firstBreak (recordChecks idLength k p at) ≡ elementCheck idLength k p at
+      go : (k : Kind) → isHelloKind k ≡ false → firstBreak (recordChecks idLength k p at) ≡ elementCheck idLength k p at
       go Ca h = refl
       go CsuRequest h = refl
       go CsuReply h = refl

@@ -46,7 +46,7 @@ fn and_then(a: Checked, b: Checked) -> Checked
 }
 
 fn is_request(k: Kind) -> bool
-    ensures { λ r. ⌜ r ≡ definition.isRequest k ⌝ }
+    ensures { λ r. ⌜ r ≡ definition.isRequestKind k ⌝ }
 {
     match k {
         Kind::Ca => false,
@@ -277,7 +277,7 @@ fn record_content_check(k: Kind, p: &[u8], r: usize) -> Checked
 
 // N is right in a CSU Request only.
 fn n_good(k: Kind, null: bool) -> bool
-    ensures { λ r. ⌜ r ≡ (definition.isRequest k || not null) ⌝ }
+    ensures { λ r. ⌜ r ≡ (definition.isRequestKind k || not null) ⌝ }
 {
     match k {
         Kind::Ca => !null,

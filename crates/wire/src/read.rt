@@ -1,7 +1,6 @@
 // A packet read where it lies: the refusal that it gets, or what its head says.
 ghost use mathlib.Core.Path.{_≡_};
 ghost use Prim.Native.Nat.{_≤_};
-ghost use lib.ListN.{length};
 ghost use Rattle.protocol.specs.Sizes.{idLength};
 ghost use Rattle.protocol.specs.Fields.{field2, field4};
 ghost use Rattle.protocol.specs.Numbers as numbers;
@@ -144,7 +143,7 @@ pub fn receiver(p: &[u8], h: Head) -> &[u8]
 
 // The CA sequence number of a CA.
 pub fn ca_number(p: &[u8]) -> CaNumber
-    ensures { λ r. ⌜ r ≡ numbers.ca (field4 (now (p .entry)) 8) ⌝ }
+    ensures { λ r. ⌜ r ≡ numbers.caNumber (field4 (now (p .entry)) 8) ⌝ }
 {
     CaNumber(octets::field4(p, 8))
 }

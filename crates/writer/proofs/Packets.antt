@@ -27,7 +27,7 @@ use Rattle.writer.specs.declared.write.Records.{Records}
 use Rattle.writer.specs.declared.write.Written.{Written}
 use Rattle.writer.specs.declared.write.Written.the-variants.{Octets, TooShort}
 use Rattle.writer.specs.declared.put.Lead.{Lead}
-use Rattle.protocol.specs.Checks.{isRequest}
+use Rattle.protocol.specs.Checks.{isRequestKind}
 use Rattle.writer.specs.Write.{recordOf, messageOf, helloMessage, Writes, leadOctets, helloLead, receiverLength, commonFields, commonOf, openingOf, recordFields, carried, carriedOf, recordMost, summed, sealed, recordsPacket, Finishes}
 
 -- ---- the fixed part and the checksum
@@ -44,7 +44,7 @@ finished k b out {before} {mid} {after} {h} {n} room p e q w =
     let H : List ℕ = fixedPart k (fixedSize + length b) 0 in
     let same : h ≡ H = e ∙ ap (λ (x : ℕ). fixedPart k x 0) (p .next) in
     let whole : mid ≡ written (H ++ b) out =
-    q .octets ∙ (λ i. putAt (p .octets i) 0 (same i)) ∙ put-before out fixedSize H b refl room ∙ put-zero out (H ++ b) in
+    q .octets ∙ (λ i. putAt (p .octets i) 0 (same i)) ∙ put-before out fixedSize H b refl (omega arith) ∙ put-zero out (H ++ b) in
     let size : n ≡ length (H ++ b) = p .next ∙ sym (length-append H b) in
     let first : take n mid ≡ H ++ b = ap (take n) whole ∙ take-written (H ++ b) out n size in
     w ∙ (λ i. written (summed (first i)) (whole i)) ∙ written-again (sealed k b) (H ++ b) out refl
@@ -196,7 +196,7 @@ carried-count false l = length-map (map recordOf l) summaryOf ∙ length-map l r
 
 -- the records behind the opening, and the packet finished
 pub records-wrote : (k : Kind) (lead : Lead) (c : Common) (flags : ℕ) (r : Records) (out : List ℕ) {a b after : List ℕ} {whole : Bool} {count at n : ℕ}
-    → 284 ≤ length out → n ≤ length out → whole ≡ isRequest k → count ≡ length (take (r .count) (r .list))
+    → 284 ≤ length out → n ≤ length out → whole ≡ isRequestKind k → count ≡ length (take (r .count) (r .list))
     → Put (openingOf lead c flags 4 count) fixedSize out a at → Put (recordsOctets [] (carriedOf whole (take (r .count) (r .list)))) at a b n
     → Finishes k n b after → Writes (recordsPacket k lead c flags r) out after (Octets n)
 records-wrote k lead c flags r out {whole = whole} {count = count} h g w e p q f =

@@ -16,7 +16,7 @@ use Rattle.protocol.specs.Fields.{put2, put4}
 use Rattle.protocol.specs.Checksum.{checksumOf}
 use Rattle.protocol.specs.Messages.{CsaRecord, summaryOf, Body, ca, csuRequest, csuReply, csus, hello, Message}
 use Rattle.protocol.specs.Layouts.{fixedPart, recordsOctets}
-use Rattle.protocol.specs.Checks.{isRequest}
+use Rattle.protocol.specs.Checks.{isRequestKind}
 use Rattle.writer.specs.declared.write.Common.{Common}
 use Rattle.writer.specs.declared.write.CsaValue.{CsaValue}
 use Rattle.writer.specs.declared.write.Records.{Records}
@@ -128,7 +128,7 @@ sealed k b = fixedPart k (fixedSize + length b) (checksumOf (fixedPart k (fixedS
 abbrev pub recordsPacket : Kind → Lead → Common → ℕ → Records → List ℕ
 recordsPacket k lead c flags r =
     let l = take (r .count) (r .list) in
-    sealed k (openingOf lead c flags idLength (length l) ++ recordsOctets [] (carriedOf (isRequest k) l))
+    sealed k (openingOf lead c flags idLength (length l) ++ recordsOctets [] (carriedOf (isRequestKind k) l))
 
 -- what was put behind the place of the fixed part is a packet, at the start of the slice
 abbrev pub Finishes : Kind → ℕ → List ℕ → List ℕ → Type 0

@@ -2,7 +2,7 @@
 ghost use mathlib.Core.Path.{_≡_};
 ghost use Prim.Native.Nat.{_+_, _*_, _≤_};
 ghost use Rattle.protocol.specs.Layouts.{packetOf};
-ghost use Rattle.protocol.specs.Checks.{isRequest};
+ghost use Rattle.protocol.specs.Checks.{isRequestKind};
 ghost use Rattle.writer.specs.Write.{caMessage, requestMessage, replyMessage, csusMessage, helloMessage, Writes, receiverLength, noLead, caLead, helloLead, recordMost, recordsPacket};
 use crate::put::Lead;
 use crate::put::begin;
@@ -100,7 +100,7 @@ fn hello_lead(interval: u16, factor: u16) -> Lead
 }
 
 fn carries_payload(k: Kind) -> bool
-    ensures { λ r. ⌜ r ≡ isRequest k ⌝ }
+    ensures { λ r. ⌜ r ≡ isRequestKind k ⌝ }
 {
     match k {
         Kind::Ca => false,
@@ -113,7 +113,7 @@ fn carries_payload(k: Kind) -> bool
 
 // The four types of packet with records, which differ in what stands here.
 fn write_records(out: &mut [u8], k: Kind, lead: Lead, c: Common, flags: u16, r: Records) -> Written
-    requires { ⌜ lead .len + (3 * recordMost (isRequest k) + 64) ≤ 256 ⌝ }
+    requires { ⌜ lead .len + (3 * recordMost (isRequestKind k) + 64) ≤ 256 ⌝ }
     ensures { λ x. ⌜ Writes (recordsPacket k lead c flags r) (now (out .entry)) (now (out .exit)) x ⌝ }
 {
     if out.len() < PACKET_MOST {

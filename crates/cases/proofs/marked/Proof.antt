@@ -7,12 +7,13 @@ use Rattle.protocol.specs.Layouts.{recordOctets, recordsOctets, receiversOctets
 use Rattle.protocol.specs.Checks.{headCheck, elementCheck, elementsCheck, mandatoryCheck}
 use Rattle.protocol.specs.Answers.{fixedCode}
 use Rattle.protocol.specs.Reading.{readPacket}
+use Rattle.rules.specs.Events.{codeOf, step, acted}
 use Rattle.cases.specs.Cases.{cases}
 use Rattle.cases.proofs.marked.Statement.{statement}
 use Rattle.cases.proofs.marked.Tie as tie
 
 returns : tie.Need-returns
-unfolding cases packetOf layout mandatory recordsOctets recordOctets receiversOctets total readPacket fixedCode mandatoryCheck headCheck elementsCheck elementCheck
+unfolding cases codeOf step acted packetOf layout mandatory recordsOctets recordOctets receiversOctets total readPacket fixedCode mandatoryCheck headCheck elementsCheck elementCheck
 returns c = rw (lt-ltb _ _ (c .before .if1 .taken))
 
 returns-2 : tie.Need-returns-2

@@ -1,6 +1,6 @@
 use Rattle.actions.proofs.CaLaws.{takes-answer, takes-quiet, takes-repeat, takes-done, takes-restart}
 use Rattle.actions.specs.Steps.{caPacketAt, answers}
-use Rattle.rules.specs.Links.{refuse, ignore}
+use Rattle.rules.specs.Links.{refuseCa, ignore}
 use Rattle.slots.specs.State.{settingsOf, ruleOf}
 use Rattle.slots.specs.declared.alignment.CaRule.{CaRule}
 use mathlib.Core.Path.{refl, ap}
@@ -31,7 +31,7 @@ answer-requires-4 c κs =
 returns : tie.Need-returns
 returns c =
     let a = c .before .before .before .before .before .before .args in
-    takes-quiet (a .k) (a .time) (settingsOf (a .s)) (caPacketAt (a .p .now) (a .h)) (a .x) (a .memory .now) (ruleOf (a .rule)) refuse (a .out .now) (c .silent .result) (ap ruleOf (c .before .enum-told .given .1)) refl refl (c .silent .ensures)
+    takes-quiet (a .k) (a .time) (settingsOf (a .s)) (caPacketAt (a .p .now) (a .h)) (a .x) (a .memory .now) (ruleOf (a .rule)) refuseCa (a .out .now) (c .silent .result) (ap ruleOf (c .before .enum-told .given .1)) refl refl (c .silent .ensures)
 
 returns-2 : tie.Need-returns-2
 returns-2 c =

@@ -1,7 +1,7 @@
 use Rattle.actions.proofs.DueLaws.{planned, planned-if, in-state, due-first, due-other}
 use Rattle.actions.specs.Parts.{slotWith}
 use Rattle.memory.specs.Memory.{rowsIn}
-use Rattle.rules.specs.Poll.{none, aCsus, csusDue, updateDue}
+use Rattle.rules.specs.Poll.{nothingDue, aCsus, csusDue, updateDue}
 use Rattle.rules.specs.Slots.{passed}
 use Rattle.actions.specs.declared.poll.Due.the-variants.{Nothing, FirstCa, Csus}
 use Rattle.protocol.specs.declared.Alignment.the-variants.{Down, Negotiate, Summarize, Update, Aligned}
@@ -21,7 +21,7 @@ returns-2 : tie.Need-returns-2
 returns-2 c =
     let a = c .before .before .before .before .before .args in
     in-state (a .time) (a .k) (a .x) (a .memory .now) (slotWith (a .x) (a .k) (a .memory .now)) (c .plan-for .result) (a .x .link .alignment) Down (c .before .enum-told .given .1)
-    (planned (a .k) (a .x) (a .memory .now) (c .plan-for .result) Nothing none tt refl (c .plan-for .ensures))
+    (planned (a .k) (a .x) (a .memory .now) (c .plan-for .result) Nothing nothingDue tt refl (c .plan-for .ensures))
 
 returns-3 : tie.Need-returns-3
 returns-3 c =

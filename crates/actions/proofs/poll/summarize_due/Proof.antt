@@ -1,6 +1,6 @@
 use Rattle.actions.proofs.DueLaws.{planned, planned-if, in-summarize}
 use Rattle.actions.specs.Parts.{slotWith}
-use Rattle.rules.specs.Poll.{none}
+use Rattle.rules.specs.Poll.{nothingDue}
 use Rattle.rules.specs.Slots.{passed}
 use Rattle.actions.specs.declared.poll.Due.the-variants.{Nothing, KeptCa}
 use Rattle.protocol.specs.declared.Role.the-variants.{Master, Slave}
@@ -19,7 +19,7 @@ returns-2 : tie.Need-returns-2
 returns-2 c = λ k memory.
     let a = c .before .before .before .args in
     in-summarize (a .time) k (a .x) memory (slotWith (a .x) k memory) (c .plan-for .result) (a .role) Slave (c .before .enum-told2 .given .1)
-    (planned k (a .x) memory (c .plan-for .result) Nothing none tt refl (c .plan-for .ensures))
+    (planned k (a .x) memory (c .plan-for .result) Nothing nothingDue tt refl (c .plan-for .ensures))
 
 pub summarize-due-spec : {M : Type 1} → statement M
 summarize-due-spec =

@@ -1,31 +1,46 @@
-use Rattle.lines.proofs.RunLaws.{one-more, all-records, no-records}
-use Rattle.lines.specs.Lines.{eventsFrom}
-use Rattle.server.specs.State.{serverOf}
-use Rattle.rules.specs.Events.{run}
+-- Each record is taken by the server that the last one left; the invariant is `Went`.
+-- Assumes nothing.
+use Rattle.lines.proofs.RunLaws.{Went, went-none, went-more, went-run, went-host, all-records}
 use native.Mathlib.Omega.{arith}
-use lib.ListN.{length, drop}
-use mathlib.Core.Path.{_≡_, refl, sym, ap, _∙_}
+use lib.ListN.{length}
+use mathlib.Core.Path.{_≡_, sym, ap, _∙_, subst}
+use mathlib.Core.List.{List, _++_}
 use Prim.Native.Nat.{_≤_, _+_, _*_, _-_}
 use borrow.Author.Needs.{needs}
+use Rattle.rules.specs.Events.{Event, run, items}
+use Rattle.server.specs.State.{serverOf}
+use Rattle.server.specs.Hosts.{Hosted}
 use Rattle.lines.proofs.run.run_from.Statement.{statement}
 use Rattle.lines.proofs.run.run_from.Tie as tie
 
 abbrev Inv-loop : tie.InvT-loop
-Inv-loop slots₀ memory₀ input out₀ x₀ at₀ left₀ slots memory out x at left = (at + 292 * left ≤ length input) × (run (serverOf x₀ slots₀ memory₀) (eventsFrom left₀ (drop at₀ input)) ≡ run (serverOf x slots memory) (eventsFrom left (drop at input)))
+Inv-loop slots₀ memory₀ input out₀ x₀ at₀ left₀ slots memory out x at left =
+    (at + 292 * left ≤ length input) × Went input at₀ left₀ x₀ slots₀ memory₀ at left x slots memory
 
 abbrev μ-loop : tie.MeasureT-loop
 μ-loop slots₀ memory₀ input out₀ x₀ at₀ left₀ slots memory out x at left = left
 
 loop-holds : tie.Need-loop-holds Inv-loop μ-loop
-loop-holds c = (omega arith, refl)
+loop-holds c = (omega arith, went-none _ _ _ _ _ _)
 
 loop-again : tie.Need-loop-again Inv-loop μ-loop
-loop-again c = (omega arith, c .before .before .before .before .before .before .before .loop .inv .1 ∙ one-more (c .before .before .before .before .before .before .before .before .before .args .input .now) _ (c .before .before .before .before .before .before .before .loop .at) (c .before .before .before .before .before .before .before .loop .left) (c .before .before .before .before .before .before .before .loop .left - 1) _ _ (c .before .before .before .part-of .ensures) (omega arith) (c .before .take .ensures .server))
+loop-again c =
+    let l = c .before .before .before .before .before .before .before .loop in (
+      omega arith,
+      went-more (l .inv .1) _ (l .left - 1) _ _ _ (c .before .before .before .part-of .ensures) (omega arith) (c .before .take .ensures .server) (c .before .take .ensures .host),
+    )
 
 returns : tie.Need-returns Inv-loop μ-loop
 returns c =
     let l = c .before .loop in
-    sym (no-records (serverOf (l .x) (l .slots) (l .memory)) (l .left) (drop (l .at) (c .before .before .before .args .input .now)) (omega arith)) ∙ sym (l .inv .1) ∙ ap (run (serverOf (c .before .before .before .args .s) (c .before .before .before .args .slots .now) (c .before .before .before .args .memory .now))) (sym (all-records (c .before .before .before .args .input .now)))
+    let a = c .before .before .before .args in
+    let w = l .inv .1 in
+    let z : l .left ≡ 0 = omega arith in
+    let e = sym (all-records (a .input .now)) in
+    record {
+      server = went-run w z ∙ ap (run (serverOf (a .s) (a .slots .now) (a .memory .now))) e;
+      host = λ k is h. subst (λ (es : List Event). Hosted k (l .x) (l .slots) (l .memory) (is ++ items (serverOf (a .s) (a .slots .now) (a .memory .now)) es)) e (went-host w z k is h);
+    }
 
 pub run-from-spec : {M : Type 1} → statement M
 run-from-spec =

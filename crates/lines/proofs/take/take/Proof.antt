@@ -5,10 +5,10 @@ use Rattle.lines.proofs.take.take.Statement.{statement}
 use Rattle.lines.proofs.take.take.Tie as tie
 
 returns : tie.Need-returns
-returns c = takes-event (kind-1 (c .before .before .before .before .before .before .before .before .args .r .now) _ (c .before .before .before .before .before .before .kind .ensures) _ _ (c .before .before .slot .ensures) (c .before .time .ensures) (c .before .before .before .before .before .if1 .taken)) (λ x. refl) (c .link-up .ensures)
+returns c = takes-event (kind-1 (c .before .before .before .before .before .before .before .before .args .r .now) _ (c .before .before .before .before .before .before .kind .ensures) _ _ (c .before .before .slot .ensures) (c .before .time .ensures) (c .before .before .before .before .before .if1 .taken)) refl (c .link-up .ensures)
 
 returns-2 : tie.Need-returns-2
-returns-2 c = takes-event (kind-2 (c .before .before .before .before .before .before .before .before .before .args .r .now) _ (c .before .before .before .before .before .before .before .kind .ensures) _ _ (c .before .before .slot2 .ensures) (c .before .time2 .ensures) (c .before .before .before .before .before .before .if1 .left) (c .before .before .before .before .before .if2 .taken)) (λ x. refl) (c .link-down .ensures)
+returns-2 c = takes-event (kind-2 (c .before .before .before .before .before .before .before .before .before .args .r .now) _ (c .before .before .before .before .before .before .before .kind .ensures) _ _ (c .before .before .slot2 .ensures) (c .before .time2 .ensures) (c .before .before .before .before .before .before .if1 .left) (c .before .before .before .before .before .if2 .taken)) refl (c .link-down .ensures)
 
 returns-3 : tie.Need-returns-3
 returns-3 c = takes-out (kind-3 (c .before .before .before .before .before .before .before .before .before .args .r .now) _ (c .before .before .before .before .before .before .before .kind .ensures) (c .before .before .before .before .before .before .if1 .left) (c .before .before .before .before .before .if2 .left) (c .before .before .before .before .if3 .taken)) (c .packet-in .ensures)

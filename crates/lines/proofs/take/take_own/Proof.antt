@@ -5,16 +5,16 @@ use Rattle.lines.proofs.take.take_own.Statement.{statement}
 use Rattle.lines.proofs.take.take_own.Tie as tie
 
 returns : tie.Need-returns
-returns c = λ out u. takes-event (kind-5 (c .before .before .before .before .before .before .before .before .args .r .now) _ (c .before .before .before .before .before .before .kind .ensures) u _ _ (c .before .before .key .ensures) (c .before .payload .ensures) (c .before .before .before .before .before .if1 .taken)) (λ x. refl) (c .set .ensures)
+returns c = λ out u. takes-event (kind-5 (c .before .before .before .before .before .before .before .before .args .r .now) _ (c .before .before .before .before .before .before .kind .ensures) u _ _ (c .before .before .key .ensures) (c .before .payload .ensures) (c .before .before .before .before .before .if1 .taken)) refl (c .set .ensures)
 
 returns-2 : tie.Need-returns-2
-returns-2 c = λ out u. takes-event (kind-6 (c .before .before .before .before .before .before .before .before .args .r .now) _ (c .before .before .before .before .before .before .kind .ensures) u _ (c .before .key2 .ensures) (c .before .before .before .before .before .if1 .left) (c .before .before .before .before .if2 .taken)) (λ x. refl) (c .withdraw .ensures)
+returns-2 c = λ out u. takes-event (kind-6 (c .before .before .before .before .before .before .before .before .args .r .now) _ (c .before .before .before .before .before .before .kind .ensures) u _ (c .before .key2 .ensures) (c .before .before .before .before .before .if1 .left) (c .before .before .before .before .if2 .taken)) refl (c .withdraw .ensures)
 
 returns-3 : tie.Need-returns-3
-returns-3 c = λ out u. takes-event (kind-7 (c .before .before .before .before .before .before .before .before .before .args .r .now) _ (c .before .before .before .before .before .before .before .kind .ensures) u _ (c .before .key3 .ensures) (c .before .before .before .before .before .before .if1 .left) (c .before .before .before .before .before .if2 .left) (c .before .before .before .before .if3 .taken)) (λ x. refl) (c .purge .ensures)
+returns-3 c = λ out u. takes-event (kind-7 (c .before .before .before .before .before .before .before .before .before .args .r .now) _ (c .before .before .before .before .before .before .before .kind .ensures) u _ (c .before .key3 .ensures) (c .before .before .before .before .before .before .if1 .left) (c .before .before .before .before .before .if2 .left) (c .before .before .before .before .if3 .taken)) refl (c .purge .ensures)
 
 returns-4 : tie.Need-returns-4
-returns-4 c = λ out u. takes-event (kind-8 (c .before .before .before .before .before .before .before .before .before .before .before .args .r .now) _ (c .before .before .before .before .before .before .before .before .before .kind .ensures) u _ _ (c .before .before .slot .ensures) (c .before .id .ensures) (c .before .before .before .before .before .before .before .before .if1 .left) (c .before .before .before .before .before .before .before .if2 .left) (c .before .before .before .before .before .before .if3 .left) (c .before .before .before .before .before .if4 .taken)) (λ x. refl) (c .add-peer .ensures)
+returns-4 c = λ out u. takes-event (kind-8 (c .before .before .before .before .before .before .before .before .before .before .before .args .r .now) _ (c .before .before .before .before .before .before .before .before .before .kind .ensures) u _ _ (c .before .before .slot .ensures) (c .before .id .ensures) (c .before .before .before .before .before .before .before .before .if1 .left) (c .before .before .before .before .before .before .before .if2 .left) (c .before .before .before .before .before .before .if3 .left) (c .before .before .before .before .before .if4 .taken)) refl (c .add-peer .ensures)
 
 returns-5 : tie.Need-returns-5
 returns-5 c = λ out u. takes-none (kind-none (c .before .before .before .before .before .before .before .args .r .now) _ (c .before .before .before .before .before .kind .ensures) u (c .before .before .before .before .if1 .left) (c .before .before .before .if2 .left) (c .before .before .if3 .left) (c .before .if4 .left)) (c .refuse .ensures)

@@ -1,4 +1,4 @@
-use Rattle.rules.specs.Updates.{owed}
+use Rattle.rules.specs.Updates.{waitsAgain}
 use Rattle.memory.proofs.EntryLaws.{entry-marked, entry-absent, found-kept}
 use Rattle.memory.proofs.RowInsert.{found-below}
 use Rattle.memory.specs.Search.{entry}
@@ -12,10 +12,10 @@ owe-requires : tie.Need-owe-requires
 owe-requires c κs = let a = c .before .before .before .before .before .before .before .before .before .args in let i = c .before .before .i .given in let h = found-below (holds (entry (a .key .now) (a .originator .now))) (a .memory .now) (i .0 .0) (sym (c .before .before .before .before .find .ensures) ∙ i .1) in (c .before .before .before .before .before .before .before .before .before .pre .0, (h, c .before .before .before .before .before .before .before .before .before .pre .1))
 
 returns : tie.Need-returns
-returns c = let a = c .before .before .before .before .before .before .before .before .before .before .before .before .args in let i = c .before .before .before .before .before .i .given in (entry-marked (entry (a .key .now) (a .originator .now)) (a .memory .now) (i .0 .0) (sym (c .before .before .before .before .before .before .before .find .ensures) ∙ i .1) (owed (a .k)) (c .before .before .owe .last .0) (c .before .before .owe .ensures .0), found-kept (entry (a .key .now) (a .originator .now)) (a .memory .now) (i .0 .0) (sym (c .before .before .before .before .before .before .before .find .ensures) ∙ i .1) (c .before .before .owe .last .0))
+returns c = let a = c .before .before .before .before .before .before .before .before .before .before .before .before .args in let i = c .before .before .before .before .before .i .given in (entry-marked (entry (a .key .now) (a .originator .now)) (a .memory .now) (i .0 .0) (sym (c .before .before .before .before .before .before .before .find .ensures) ∙ i .1) (waitsAgain (a .k)) (c .before .before .owe .last .0) (c .before .before .owe .ensures .0), found-kept (entry (a .key .now) (a .originator .now)) (a .memory .now) (i .0 .0) (sym (c .before .before .before .before .before .before .before .find .ensures) ∙ i .1) (c .before .before .owe .last .0))
 
 returns-2 : tie.Need-returns-2
-returns-2 c = let a = c .before .before .before .before .before .before .before .args in (entry-absent (entry (a .key .now) (a .originator .now)) (a .memory .now) (sym (c .before .before .find .ensures) ∙ c .enum-told .given .1) (owed (a .k)), λ h. refl)
+returns-2 c = let a = c .before .before .before .before .before .before .before .args in (entry-absent (entry (a .key .now) (a .originator .now)) (a .memory .now) (sym (c .before .before .find .ensures) ∙ c .enum-told .given .1) (waitsAgain (a .k)), λ h. refl)
 
 pub older-record-spec : {M : Type 1} → statement M
 older-record-spec =

@@ -1,7 +1,7 @@
 use Rattle.memory.proofs.RequestSteps.{goes-dropped, goes-none}
 use Rattle.memory.specs.Search.{entry}
 use Rattle.memory.specs.Memory.{memoryOf, requestsOf}
-use Rattle.protocol.specs.Numbers.{csa}
+use Rattle.protocol.specs.Numbers.{csaNumber}
 use lib.IntN.{pos}
 use borrow.Author.Needs.{needs}
 use Rattle.memory.proofs.requests.drop_entry.Statement.{statement}
@@ -13,7 +13,7 @@ returns c =
     let e = entry (a .key .now) (a .originator .now) in
     let m = memoryOf (a .memory .now) in
     let q = c .before .before .sift in
-    (goes-dropped (a .k) e (csa (pos 0)) m (memoryOf (q .last .0)) (q .ensures .0), λ h. q .ensures .1 (goes-none e (csa (pos 0)) (requestsOf m (a .k)) h))
+    (goes-dropped (a .k) e (csaNumber (pos 0)) m (memoryOf (q .last .0)) (q .ensures .0), λ h. q .ensures .1 (goes-none e (csaNumber (pos 0)) (requestsOf m (a .k)) h))
 
 pub drop-entry-spec : {M : Type 1} → statement M
 drop-entry-spec = tie.close (tie.spec (λ c κs. search needs) (λ c. search needs) returns)

@@ -1,43 +1,39 @@
-use mathlib.Core.Path.{_∙_}
-use borrow.Author.Tests.{not-true, not-false}
+use Rattle.records.proofs.StandingLaws.{found-for, rule-null, rule-held, rule-absent}
+use Rattle.records.specs.Walks.{ruleOf}
+use Rattle.memory.proofs.RowInsert.{found-below}
+use Rattle.memory.specs.declared.rows.Found.the-variants.{At, Nothing}
+use Rattle.rules.specs.Requests.{entryOf}
+use Rattle.rules.specs.Server.{holds}
 use Rattle.wire.specs.Views.{csaRecordOf}
-use Rattle.memory.specs.Memory.{rowsIn}
-use Rattle.records.proofs.StandingLaws.{rule-null, rule-absent, rule-stored, rule-older, rule-equal}
 use borrow.Author.Needs.{needs}
 use Rattle.records.proofs.standing.update_rule.Statement.{statement}
 use Rattle.records.proofs.standing.update_rule.Tie as tie
 
 returns : tie.Need-returns
-returns c = let a = c .before .before .before .args in rule-null (csaRecordOf (a .p .now) (a .v)) (rowsIn (a .memory .now)) (c .if1 .taken)
+returns c = let a = c .before .before .before .args in rule-null (a .memory .now) (csaRecordOf (a .p .now) (a .v)) (c .if1 .taken)
+
+number-of-requires : tie.Need-number-of-requires
+number-of-requires c κs =
+    let a = c .before .before .before .before .before .before .before .before .before .args in
+    let r = csaRecordOf (a .p .now) (a .v) in
+    let i = c .before .i .given in
+    let f = found-for (a .memory .now) r (c .before .before .before .find .result) (At (i .0 .0)) (c .before .before .before .before .before .key .result .now) (c .before .before .before .before .originator .result .now) (c .before .before .before .find .ensures) (c .before .before .before .before .before .key .ensures) (c .before .before .before .before .originator .ensures) (i .1) in
+    (c .before .before .before .before .before .before .before .before .before .pre, found-below (holds (entryOf r)) (a .memory .now) (i .0 .0) f)
 
 returns-2 : tie.Need-returns-2
 returns-2 c =
-    let a = c .before .before .before .before .before .before .before .before .before .args in
-    let s = c .before .before .before .stand-in in
-    c .absent-rule .ensures
-    ∙ rule-absent (csaRecordOf (a .p .now) (a .v)) (rowsIn (a .memory .now)) (c .before .before .before .before .before .key .result .now) (c .before .before .before .before .originator .result .now) (s .result) (c .before .before .before .before .before .before .if1 .left) (c .before .before .before .before .before .key .ensures) (c .before .before .before .before .originator .ensures) (s .ensures)
-    (not-true (s .result .held) (c .before .if2 .taken))
+    let a = c .before .before .before .before .before .before .before .before .before .before .before .args in
+    let r = csaRecordOf (a .p .now) (a .v) in
+    let i = c .before .before .before .i .given in
+    let f = found-for (a .memory .now) r (c .before .before .before .before .before .find .result) (At (i .0 .0)) (c .before .before .before .before .before .before .before .key .result .now) (c .before .before .before .before .before .before .originator .result .now) (c .before .before .before .before .before .find .ensures) (c .before .before .before .before .before .before .before .key .ensures) (c .before .before .before .before .before .before .originator .ensures) (i .1) in
+    rule-held (a .memory .now) r (c .before .before .before .before .before .before .before .before .if1 .left) (ruleOf (c .held-rule .result)) (i .0 .0) (c .before .number-of .result) f (c .before .number-of .ensures) (c .held-rule .ensures)
 
 returns-3 : tie.Need-returns-3
 returns-3 c =
     let a = c .before .before .before .before .before .before .before .before .before .args in
-    let s = c .before .before .before .stand-in in
-    rule-stored (csaRecordOf (a .p .now) (a .v)) (rowsIn (a .memory .now)) (c .before .before .before .before .before .key .result .now) (c .before .before .before .before .originator .result .now) (s .result) (c .before .before .before .before .before .before .if1 .left) (c .before .before .before .before .before .key .ensures) (c .before .before .before .before .originator .ensures) (s .ensures)
-    (not-false (s .result .held) (c .before .if2 .left)) (c .if3 .taken)
-
-returns-4 : tie.Need-returns-4
-returns-4 c =
-    let a = c .before .before .before .before .before .before .before .before .before .before .args in
-    let s = c .before .before .before .before .stand-in in
-    rule-older (csaRecordOf (a .p .now) (a .v)) (rowsIn (a .memory .now)) (c .before .before .before .before .before .before .key .result .now) (c .before .before .before .before .before .originator .result .now) (s .result) (c .before .before .before .before .before .before .before .if1 .left) (c .before .before .before .before .before .before .key .ensures) (c .before .before .before .before .before .originator .ensures) (s .ensures)
-    (not-false (s .result .held) (c .before .before .if2 .left)) (c .before .if3 .left) (c .if4 .taken)
-
-returns-5 : tie.Need-returns-5
-returns-5 c =
-    let a = c .before .before .before .before .before .before .before .before .before .before .args in
-    let s = c .before .before .before .before .stand-in in
-    rule-equal (csaRecordOf (a .p .now) (a .v)) (rowsIn (a .memory .now)) (c .before .before .before .before .before .before .key .result .now) (c .before .before .before .before .before .originator .result .now) (s .result) (c .before .before .before .before .before .before .before .if1 .left) (c .before .before .before .before .before .before .key .ensures) (c .before .before .before .before .before .originator .ensures) (s .ensures)
-    (not-false (s .result .held) (c .before .before .if2 .left)) (c .before .if3 .left) (c .if4 .left)
+    let r = csaRecordOf (a .p .now) (a .v) in
+    let f = found-for (a .memory .now) r (c .before .before .before .find .result) Nothing (c .before .before .before .before .before .key .result .now) (c .before .before .before .before .originator .result .now) (c .before .before .before .find .ensures) (c .before .before .before .before .before .key .ensures) (c .before .before .before .before .originator .ensures) (c .before .enum-told .given .1) in
+    rule-absent (a .memory .now) r (c .before .before .before .before .before .before .if1 .left) (ruleOf (c .absent-rule .result)) f (c .absent-rule .ensures)
 
 pub update-rule-spec : {M : Type 1} → statement M
 update-rule-spec =
@@ -47,8 +43,10 @@ update-rule-spec =
     (λ c κs. search needs)
     (λ c κs. search needs)
     (λ c κs. search needs)
+    (λ c. search needs)
+    number-of-requires
+    (λ c κs. search needs)
+    (λ c. search needs)
     (λ c κs. search needs)
     returns-2
-    returns-3
-    returns-4
-    returns-5)
+    returns-3)

@@ -34,7 +34,7 @@ returns-2 c =
     let a = c .before .before .before .before .before .before .before .before .before .before .before .before .before .before .before .before .before .before .before .before .args in
     let o = c .before .before .before .before .before .before .before .before .before .before .before .before .before .before .before .before .link-code in
     let x = c .before .before .before .before .before .before .before .before .before .before .before .slot-at in
-    does-silent (linkUp (a .k) (a .time)) (a .s) (a .slots .now) (c .before .before .before .before .taken .last .1 .0) (a .k) (a .time) (x .result) (c .before .before .before .before .before .before .before .before .before .before .up .result) (a .memory .now) (c .before .before .before .before .before .before .before .before .before .before .up .last .0) (c .before .before .before .before .taken .last .1 .1 .0) (o .result) (c .before .before .before .before .before .silent .result) (c .before .before .before .before .taken .result) (told (c .before .before .before .before .before .before .before .before .before .before .before .before .before .before)) refl refl refl (o .ensures (a .memory .now)) (c .before .before .before .before .before .before .before .before .before .before .before .before .before .before .enum-told .given .1) (x .ensures) (c .before .before .before .before .before .before .before .before .before .before .up .ensures) (c .before .before .before .before .before .silent .ensures) (c .before .before .before .before .taken .ensures)
+    does-silent (linkUp (a .k) (a .time)) (a .s) (a .slots .now) (c .before .before .before .before .taken .last .1 .0) (a .k) (a .time) (x .result) (c .before .before .before .before .before .before .before .before .before .before .up .result) (a .memory .now) (c .before .before .before .before .before .before .before .before .before .before .up .last .0) (c .before .before .before .before .taken .last .1 .1 .0) (o .result) (c .before .before .before .before .before .silent .result) (c .before .before .before .before .taken .result) (told (c .before .before .before .before .before .before .before .before .before .before .before .before .before .before)) refl refl refl refl (o .ensures (a .memory .now)) (c .before .before .before .before .before .before .before .before .before .before .before .before .before .before .enum-told .given .1) (x .ensures) (c .before .before .before .before .before .before .before .before .before .before .up .ensures) (c .before .before .before .before .before .silent .ensures) (c .before .before .before .before .taken .ensures)
 
 pub link-up-spec : {M : Type 1} → statement M
 link-up-spec =

@@ -2,16 +2,16 @@ use mathlib.Core.Path.{_≡_, sym, _∙_}
 use mathlib.Core.Bool.{true}
 use borrow.Author.Tests.{not-true, not-false}
 use borrow.Author.Needs.{needs}
-use Rattle.rules.specs.Refusals.{keyGood, payloadGood}
+use Rattle.rules.specs.Refusals.{ownKeyGood, ownPayloadGood}
 use Rattle.server.specs.State.{serverOf}
 use Rattle.server.proofs.OwnLaws.{set-key, set-payload, set-spent, set-held, set-new, set-full}
 use Rattle.server.proofs.own.set_code.Statement.{statement}
 use Rattle.server.proofs.own.set_code.Tie as tie
 
-key-ok : (c : tie.Else1) → keyGood (c .before .before .before .before .before .args .key .now) ≡ true
+key-ok : (c : tie.Else1) → ownKeyGood (c .before .before .before .before .before .args .key .now) ≡ true
 key-ok c = sym (c .before .key-good .ensures) ∙ not-false (c .before .key-good .result) (c .if1 .left)
 
-payload-ok : (c : tie.Else2) → payloadGood (c .before .before .before .before .before .before .before .args .payload .now) ≡ true
+payload-ok : (c : tie.Else2) → ownPayloadGood (c .before .before .before .before .before .before .before .args .payload .now) ≡ true
 payload-ok c = sym (c .before .payload-good .ensures) ∙ not-false (c .before .payload-good .result) (c .if2 .left)
 
 returns : tie.Need-returns

@@ -2,13 +2,13 @@ use mathlib.Core.Path.{_≡_, sym, _∙_}
 use mathlib.Core.Bool.{true}
 use borrow.Author.Tests.{not-true, not-false}
 use borrow.Author.Needs.{needs}
-use Rattle.rules.specs.Refusals.{keyGood}
+use Rattle.rules.specs.Refusals.{ownKeyGood}
 use Rattle.server.specs.State.{serverOf}
 use Rattle.server.proofs.OwnLaws.{withdraw-key, withdraw-empty, withdraw-spent, withdraw-taken}
 use Rattle.server.proofs.own.withdraw_code.Statement.{statement}
 use Rattle.server.proofs.own.withdraw_code.Tie as tie
 
-key-ok : (c : tie.Else1) → keyGood (c .before .before .before .before .args .key .now) ≡ true
+key-ok : (c : tie.Else1) → ownKeyGood (c .before .before .before .before .args .key .now) ≡ true
 key-ok c = sym (c .before .key-good .ensures) ∙ not-false (c .before .key-good .result) (c .if1 .left)
 
 returns : tie.Need-returns

@@ -1,6 +1,6 @@
 use mathlib.Core.Path.{ap, _∙_}
 use Rattle.server.proofs.QueryLaws.{is-below, row-used, row-free}
-use Rattle.server.specs.Queries.{entryOf}
+use Rattle.server.specs.Queries.{entryShown}
 use Rattle.rules.specs.Server.{Row}
 use borrow.Author.Needs.{needs}
 use Rattle.server.proofs.queries.key_of.Statement.{statement}
@@ -10,10 +10,10 @@ key-of-requires : tie.Need-key-of-requires
 key-of-requires c κs = let a = c .before .before .before .args in (search needs, is-below (a .memory .now) (a .row) (c .before .before .is-used .result) (c .before .before .is-used .ensures) (c .before .if1 .taken))
 
 returns : tie.Need-returns
-returns c = let a = c .before .before .before .before .args in c .key-of .ensures ∙ ap (λ (r : Row). entryOf r .key) (row-used (a .memory .now) (a .row) (c .before .before .before .is-used .result) (c .before .before .before .is-used .ensures) (c .before .before .if1 .taken))
+returns c = let a = c .before .before .before .before .args in c .key-of .ensures ∙ ap (λ (r : Row). entryShown r .key) (row-used (a .memory .now) (a .row) (c .before .before .before .is-used .result) (c .before .before .before .is-used .ensures) (c .before .before .if1 .taken))
 
 returns-2 : tie.Need-returns-2
-returns-2 c = let a = c .before .before .before .before .args in c .first .ensures ∙ ap (λ (r : Row). entryOf r .key) (row-free (a .memory .now) (a .row) (c .before .before .before .is-used .result) (c .before .before .before .is-used .ensures) (c .before .before .if1 .left))
+returns-2 c = let a = c .before .before .before .before .args in c .first .ensures ∙ ap (λ (r : Row). entryShown r .key) (row-free (a .memory .now) (a .row) (c .before .before .before .is-used .result) (c .before .before .before .is-used .ensures) (c .before .before .if1 .left))
 
 pub key-of-spec : {M : Type 1} → statement M
 key-of-spec =

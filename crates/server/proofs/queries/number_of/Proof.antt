@@ -1,6 +1,6 @@
 use mathlib.Core.Path.{ap, _∙_}
 use Rattle.server.proofs.QueryLaws.{is-below, row-used, row-free}
-use Rattle.server.specs.Queries.{valueOf}
+use Rattle.server.specs.Queries.{valueShown}
 use Rattle.rules.specs.Server.{Row}
 use borrow.Author.Needs.{needs}
 use Rattle.server.proofs.queries.number_of.Statement.{statement}
@@ -10,10 +10,10 @@ number-of-requires : tie.Need-number-of-requires
 number-of-requires c κs = let a = c .before .before .before .args in (search needs, is-below (a .memory .now) (a .row) (c .before .before .is-used .result) (c .before .before .is-used .ensures) (c .before .if1 .taken))
 
 returns : tie.Need-returns
-returns c = let a = c .before .before .before .before .args in c .number-of .ensures ∙ ap (λ (r : Row). valueOf r .number) (row-used (a .memory .now) (a .row) (c .before .before .before .is-used .result) (c .before .before .before .is-used .ensures) (c .before .before .if1 .taken))
+returns c = let a = c .before .before .before .before .args in c .number-of .ensures ∙ ap (λ (r : Row). valueShown r .number) (row-used (a .memory .now) (a .row) (c .before .before .before .is-used .result) (c .before .before .before .is-used .ensures) (c .before .before .if1 .taken))
 
 returns-2 : tie.Need-returns-2
-returns-2 c = let a = c .before .before .args in ap (λ (r : Row). valueOf r .number) (row-free (a .memory .now) (a .row) (c .before .is-used .result) (c .before .is-used .ensures) (c .if1 .left))
+returns-2 c = let a = c .before .before .args in ap (λ (r : Row). valueShown r .number) (row-free (a .memory .now) (a .row) (c .before .is-used .result) (c .before .is-used .ensures) (c .if1 .left))
 
 pub number-of-spec : {M : Type 1} → statement M
 number-of-spec = tie.close (tie.spec (λ c κs. search needs) number-of-requires returns returns-2)

@@ -1,6 +1,6 @@
 use mathlib.Core.Path.{ap, _∙_}
 use Rattle.server.proofs.QueryLaws.{is-below, row-used, row-free}
-use Rattle.server.specs.Queries.{valueOf}
+use Rattle.server.specs.Queries.{valueShown}
 use Rattle.rules.specs.Server.{Row}
 use borrow.Author.Needs.{needs}
 use Rattle.server.proofs.queries.payload_of.Statement.{statement}
@@ -10,10 +10,10 @@ payload-of-requires : tie.Need-payload-of-requires
 payload-of-requires c κs = let a = c .before .before .before .args in (search needs, is-below (a .memory .now) (a .row) (c .before .before .is-used .result) (c .before .before .is-used .ensures) (c .before .if1 .taken))
 
 returns : tie.Need-returns
-returns c = let a = c .before .before .before .before .args in c .payload-of .ensures ∙ ap (λ (r : Row). valueOf r .payload) (row-used (a .memory .now) (a .row) (c .before .before .before .is-used .result) (c .before .before .before .is-used .ensures) (c .before .before .if1 .taken))
+returns c = let a = c .before .before .before .before .args in c .payload-of .ensures ∙ ap (λ (r : Row). valueShown r .payload) (row-used (a .memory .now) (a .row) (c .before .before .before .is-used .result) (c .before .before .before .is-used .ensures) (c .before .before .if1 .taken))
 
 returns-2 : tie.Need-returns-2
-returns-2 c = let a = c .before .before .before .before .args in c .first .ensures ∙ ap (λ (r : Row). valueOf r .payload) (row-free (a .memory .now) (a .row) (c .before .before .before .is-used .result) (c .before .before .before .is-used .ensures) (c .before .before .if1 .left))
+returns-2 c = let a = c .before .before .before .before .args in c .first .ensures ∙ ap (λ (r : Row). valueShown r .payload) (row-free (a .memory .now) (a .row) (c .before .before .before .is-used .result) (c .before .before .before .is-used .ensures) (c .before .before .if1 .left))
 
 pub payload-of-spec : {M : Type 1} → statement M
 payload-of-spec =

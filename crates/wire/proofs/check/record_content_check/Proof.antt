@@ -3,7 +3,7 @@ use mathlib.Core.Bool.{Bool, true, not, _||_}
 use Prim.Native.Nat.{ℕ, _+_}
 use lib.Dec.{eqb}
 use Rattle.protocol.specs.Sizes.{idLength}
-use Rattle.protocol.specs.Checks.{field, isRequest, payloadGood, reservedBits}
+use Rattle.protocol.specs.Checks.{field, isRequestKind, payloadGood, reservedBits}
 use Rattle.wire.proofs.Checking.{one, more, put-in, field-in}
 use borrow.Author.Needs.{needs}
 use Rattle.wire.proofs.check.record_content_check.Statement.{statement}
@@ -18,7 +18,7 @@ returns c =
     let bits = c .before .before .before .before .before .before .before .before .before .before .before .before .before .before .field4 .ensures in
     let key = c .before .before .before .before .before .before .before .before .before .before .before .before .before .octet .ensures in
     let size = c .before .before .before .before .before .before .before .before .before .before .before .before .payload-size .ensures in
-    let n-good = c .before .before .before .before .before .before .before .before .before .before .before .n-good .ensures ∙ ap (λ (b : Bool). isRequest (a .k) || not b) null in
+    let n-good = c .before .before .before .before .before .before .before .before .before .before .before .n-good .ensures ∙ ap (λ (b : Bool). isRequestKind (a .k) || not b) null in
     let good = c .before .before .before .before .before .payload-good .ensures ∙ (λ i. payloadGood (null i) (bits i) (size i)) in
     more (put-in (field p (r + 6) 2) n-good (c .before .before .before .before .before .before .before .before .before .before .field .ensures))
     (more (put-in (λ (n : ℕ). field p (r + 8) 4 (not (eqb n reservedBits))) bits (c .before .before .before .before .before .before .before .before .before .field2 .ensures))
