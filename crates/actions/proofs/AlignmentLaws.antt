@@ -30,9 +30,9 @@ use Rattle.rules.specs.Slots.{completed}
 use Rattle.rules.specs.Poll.{heldRecord}
 use Rattle.memory.specs.declared.next.Picks.{Picks}
 use Rattle.memory.specs.Layout.{rowPlace}
-use Rattle.memory.specs.Memory.{entryAt, valueAt, rowIn, rowsIn, requestsIn, keptIn, memoryOf, withKept, requestsOf, keptOf}
+use Rattle.memory.specs.Memory.{rowEntry, valueAt, rowIn, rowsIn, requestsIn, keptIn, memoryOf, withKept, requestsOf, keptOf}
 use Rattle.memory.specs.Marks.{picksOf}
-use Rattle.memory.proofs.RowPlaces.{row-get, row-case, key-short}
+use Rattle.memory.proofs.RowPlaces.{row-get, row-case, key-short, originator-short}
 use Rattle.memory.proofs.Rooms.{requests-of}
 use Rattle.wire.specs.declared.read.Head.{Head}
 use Rattle.wire.specs.Views.{recordsOf, messageOf}
@@ -58,11 +58,11 @@ row-summaries rows [] = refl
 row-summaries rows (i ∷ is) = summary-one (rowAt rows (i % 64)) (rowsOf heldRecord rows is) (row-summaries rows is)
 
 -- a summary has at most 32 octets
-summary-short : (s : List ℕ) (i : ℕ) → length (recordOctets 0 (summaryRecord (entryAt s (rowPlace i)) (valueAt s (rowPlace i)))) ≤ 32
+summary-short : (s : List ℕ) (i : ℕ) → length (recordOctets 0 (summaryRecord (rowEntry s i) (valueAt s i))) ≤ 32
 unfolding recordOctets
 summary-short s i =
-    let a = key-short s (rowPlace i) in
-    let b : length (entryAt s (rowPlace i) .originator) ≤ 4 = take-short 4 (drop (rowPlace i + 8) s) .0 in
+    let a = key-short s i in
+    let b : length (rowEntry s i .originator) ≤ 4 = originator-short s i in
     simp length-append (omega arith)
 
 row-short : (s : List ℕ) (i n : ℕ) (xs : List CsaRecord) → length (recordsOctets [] xs) ≤ n

@@ -119,7 +119,7 @@ fn work(memory: &mut [u8], kind: u8, rows: u32, count: u32) -> u32
     sum
 }
 
-fn lent(memory: &mut [u8; 20800], kind: u8, rows: u32, count: u32) -> u32
+fn lent(memory: &mut [u8; 20992], kind: u8, rows: u32, count: u32) -> u32
     requires { ⌜ 0 < rows ⌝ }
 {
     work(memory, kind, rows, count)
@@ -132,7 +132,7 @@ fn main() {
     let kind = octets::octet(input, 0);
     let rows = octets::octet(input, 1);
     let count = octets::field4(input, 2);
-    let mut memory = [0u8; 20800];
+    let mut memory = [0u8; 20992];
     if rows > 0 {
         io::print_decimal(1, lent(&mut memory, kind, rows as u32, count) as u64);
         io::write_all(1, b"\n");

@@ -84,7 +84,7 @@ fn write_ca(out: &mut [u8; 284], n: u32) -> usize {
 }
 
 // ---- the server's part
-fn start(slots: &mut [usize; 192], memory: &mut [u8; 20800]) -> Server {
+fn start(slots: &mut [usize; 192], memory: &mut [u8; 20992]) -> Server {
     let settings = Settings {
         id: [10, 0, 0, 2],
         protocol: 2,
@@ -102,7 +102,7 @@ fn start(slots: &mut [usize; 192], memory: &mut [u8; 20800]) -> Server {
 fn poll_and_hello(
     s: Server,
     slots: &mut [usize; 192],
-    memory: &mut [u8; 20800],
+    memory: &mut [u8; 20992],
     out: &mut [u8],
 ) -> Server {
     let mut hello = [0u8; 284];
@@ -115,14 +115,14 @@ fn poll_and_hello(
 }
 
 // With 283 octets of room, then with 284.
-fn short_out(s: Server, slots: &mut [usize; 192], memory: &mut [u8; 20800]) -> Server {
+fn short_out(s: Server, slots: &mut [usize; 192], memory: &mut [u8; 20992]) -> Server {
     let mut less = [0u8; 283];
     let mut out = [0u8; 284];
     let t = poll_and_hello(s, slots, memory, &mut less);
     poll_and_hello(t, slots, memory, &mut out)
 }
 
-fn take_ca(s: Server, slots: &mut [usize; 192], memory: &mut [u8; 20800], n: u32) -> Server {
+fn take_ca(s: Server, slots: &mut [usize; 192], memory: &mut [u8; 20992], n: u32) -> Server {
     let mut out = [0u8; 284];
     let mut ca = [0u8; 284];
     let len = write_ca(&mut ca, n);
@@ -131,7 +131,7 @@ fn take_ca(s: Server, slots: &mut [usize; 192], memory: &mut [u8; 20800], n: u32
 }
 
 // 64 requests fill the list with 16 CAs; each CA behind them misses four more.
-fn missed(s: Server, slots: &mut [usize; 192], memory: &mut [u8; 20800]) {
+fn missed(s: Server, slots: &mut [usize; 192], memory: &mut [u8; 20992]) {
     let mut x = s;
     let mut n: u32 = 0;
     while n < 16403 {
@@ -149,7 +149,7 @@ fn missed(s: Server, slots: &mut [usize; 192], memory: &mut [u8; 20800]) {
 
 fn main() {
     let mut slots = [0usize; 192];
-    let mut memory = [0u8; 20800];
+    let mut memory = [0u8; 20992];
     let s = start(&mut slots, &mut memory);
     let t = short_out(s, &mut slots, &mut memory);
     missed(t, &mut slots, &mut memory);

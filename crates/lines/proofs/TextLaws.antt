@@ -1,19 +1,19 @@
 -- Lines as text.
 -- Assumes nothing.
-use Prim.Native.Nat.{ℕ, _+_, _-_, _^_, _≤_, _<_}
+use Prim.Native.Nat.{ℕ, _+_, _-_, _/_, _%_, _^_, _≤_, _<_}
 use mathlib.Core.Path.{_≡_, refl, sym, ap, _∙_}
 use mathlib.Core.List.{List, [], _∷_, _++_}
-use mathlib.Core.Bool.{Bool, true, false}
+use mathlib.Core.Bool.{Bool, true, false, cond}
 use native.Mathlib.Nat.{pow-le-pow-right}
 use lib.Dec.{leb}
-use borrow.Author.Tests.{leb-true, leb-false}
+use borrow.Author.Tests.{leb-true, leb-false, lt-ltb}
 use native.Mathlib.Numerals.{add-one}
 use native.Mathlib.Omega.{arith}
 use lib.ListN.{length, take, drop, set}
 use lib.Seq.{set-split}
 use Rattle.laws.specs.Puts.{putAt, Put}
 use Rattle.laws.proofs.Puts.{then-put, four-puts, put-length}
-use Rattle.io.specs.Digits.{digits, Fewest}
+use Rattle.io.specs.Digits.{glyph, digits, Fewest}
 use Rattle.lines.specs.Text.{PutsNumber, PutsNumbers}
 
 -- a store is a put of one octet
@@ -46,6 +46,75 @@ number-put n behind at k v before mid end room few f e p =
       },
       omega arith,
     )
+
+-- ---- short numbers, digit by digit
+at-digit : (x d : ℕ) → d < 10 → x ≡ 48 + d → x ≡ glyph d
+at-digit x d h e = e ∙ sym (ap (λ (b : Bool). cond b (48 + d) (87 + d)) (lt-ltb d 10 h))
+
+-- n has `places` digits and t is their text
+pub record Short (n behind places : ℕ) (t : List ℕ) : Type 0 where
+  pub least : (1 < places) → 10 ^ (places - 1) ≤ n
+  pub below : n < 10 ^ places
+  pub some : 1 ≤ places
+  pub few : length t ≤ 21
+  pub text : t ≡ digits 10 places n ++ (behind ∷ [])
+
+pub short-put : (n behind at places : ℕ) (t before after : List ℕ) (r : ℕ) → Short n behind places t → Put t at before after r
+    → (PutsNumber n behind at before after r) × (r ≤ at + 21)
+short-put n behind at places t before after r s p = (
+  record { octets = t; means = record { places = places; fewest = (s .some, s .below, s .least); text = s .text }; put = p },
+  omega (arith, p .next, s .few),
+)
+
+module _ (n behind : ℕ) where
+  pub one-digit : (a : ℕ) → n < 10 → a ≡ 48 + n → Short n behind 1 (a ∷ behind ∷ [])
+  one-digit a h e = record {
+    least = λ z. absurd (omega arith);
+    below = h;
+    some = omega arith;
+    few = omega arith;
+    text = λ i. at-digit a (n % 10) (omega arith) (omega arith) i ∷ behind ∷ [];
+  }
+
+  pub two-digits : (a b : ℕ) → 10 ≤ n → n < 100 → a ≡ 48 + n / 10 → b ≡ 48 + n % 10 → Short n behind 2 (a ∷ b ∷ behind ∷ [])
+  two-digits a b g h e f = record {
+    least = λ z. g;
+    below = h;
+    some = omega arith;
+    few = omega arith;
+    text = λ i. at-digit a (n / 10 % 10) (omega arith) (omega arith) i ∷ at-digit b (n % 10) (omega arith) f i ∷ behind ∷ [];
+  }
+
+  pub three-digits : (a b c : ℕ) → 100 ≤ n → n < 1000 → a ≡ 48 + n / 100 → b ≡ 48 + n / 10 % 10 → c ≡ 48 + n % 10 → Short n behind 3 (a ∷ b ∷ c ∷ behind ∷ [])
+  three-digits a b c g h e f k = record {
+    least = λ z. g;
+    below = h;
+    some = omega arith;
+    few = omega arith;
+    text = λ i. at-digit a (n / 10 / 10 % 10) (omega arith) (omega arith) i ∷ at-digit b (n / 10 % 10) (omega arith) f i ∷ at-digit c (n % 10) (omega arith) k i ∷ behind ∷ [];
+  }
+
+  pub four-digits : (a b c d : ℕ) → 1000 ≤ n → n < 10000 → a ≡ 48 + n / 1000 → b ≡ 48 + n / 100 % 10 → c ≡ 48 + n / 10 % 10 → d ≡ 48 + n % 10
+      → Short n behind 4 (a ∷ b ∷ c ∷ d ∷ behind ∷ [])
+  four-digits a b c d g h e f k l = record {
+    least = λ z. g;
+    below = h;
+    some = omega arith;
+    few = omega arith;
+    text = λ i. at-digit a (n / 10 / 10 / 10 % 10) (omega arith) (omega arith) i ∷ at-digit b (n / 10 / 10 % 10) (omega arith) (omega arith) i
+        ∷ at-digit c (n / 10 % 10) (omega arith) k i ∷ at-digit d (n % 10) (omega arith) l i ∷ behind ∷ [];
+  }
+
+  pub five-digits : (a b c d x : ℕ) → 10000 ≤ n → n < 100000 → a ≡ 48 + n / 10000 → b ≡ 48 + n / 1000 % 10 → c ≡ 48 + n / 100 % 10 → d ≡ 48 + n / 10 % 10 → x ≡ 48 + n % 10
+      → Short n behind 5 (a ∷ b ∷ c ∷ d ∷ x ∷ behind ∷ [])
+  five-digits a b c d x g h e f k l m = record {
+    least = λ z. g;
+    below = h;
+    some = omega arith;
+    few = omega arith;
+    text = λ i. at-digit a (n / 10 / 10 / 10 / 10 % 10) (omega arith) (omega arith) i ∷ at-digit b (n / 10 / 10 / 10 % 10) (omega arith) (omega arith) i
+        ∷ at-digit c (n / 10 / 10 % 10) (omega arith) (omega arith) i ∷ at-digit d (n / 10 % 10) (omega arith) l i ∷ at-digit x (n % 10) (omega arith) m i ∷ behind ∷ [];
+  }
 
 -- four numbers put, each behind the one before
 module _ {a b c d at : ℕ} {t₀ t₁ t₂ t₃ t₄ : List ℕ} {i j k n : ℕ} where

@@ -1,11 +1,13 @@
 -- Bits of a number: one set, one cleared; all by halves.
 -- Assumes nothing.
-use Prim.Native.Nat.{ℕ, zero, suc, _+_, _-_, _*_, _/_, _%_, _^_, _≤_, _<_}
+use Prim.Native.Nat.{ℕ, zero, suc, _+_, _-_, _*_, _/_, _%_, _^_, _≤_, _<_, max}
 use mathlib.Core.Path.{_≡_, refl, sym, ap, _∙_, fun-ext}
-use mathlib.Core.Bool.{Bool, true, false, not, _&&_}
+use mathlib.Core.Bool.{Bool, true, false, not, _&&_, _||_}
+use mathlib.Core.Logic.{_⊎_, inl, inr}
 use native.Mathlib.Nat.{pow-succ', div-div-eq-div-mul, div-one, zero-div, not-suc-le-zero}
 use native.Mathlib.Omega.{arith}
 use lib.Dec.{eqb, eqb·suc-zero, eqb·zero-suc, eqb·suc-suc}
+use lib.Bits.{bitOr, or-step}
 use borrow.Author.Tests.{eqb-true, eqb-false, eq-eqb, ne-eqb, lt-ltb}
 use Rattle.laws.specs.Choice.{pick}
 use Rattle.laws.specs.Tables.{on}
@@ -105,8 +107,43 @@ bit-room (suc n) (suc k) b l r h =
     let g : b / 2 + p < q = bit-room n k (b / 2) (omega arith) (omega arith) (sym (high b k) ∙ h) in
     rw (double n, double k) (omega arith)
 
+-- ---- the bits of two numbers together
+odd-even : (a : ℕ) → (a % 2 ≡ 0) ⊎ (a % 2 ≡ 1)
+odd-even a = by (a % 2) refl
+  where
+    by : (r : ℕ) → a % 2 ≡ r → (r ≡ 0) ⊎ (r ≡ 1)
+    by zero e = inl refl
+    by (suc zero) e = inr refl
+    by (suc (suc r)) e = absurd (omega arith)
+
+low-or : (a b : ℕ) → (a % 2 ≡ 0) ⊎ (a % 2 ≡ 1) → (b % 2 ≡ 0) ⊎ (b % 2 ≡ 1) → eqb (max (a % 2) (b % 2)) 1 ≡ (eqb (a % 2) 1 || eqb (b % 2) 1)
+low-or a b (inl e) (inl f) = rw (e, f)
+low-or a b (inl e) (inr f) = rw (e, f)
+low-or a b (inr e) (inl f) = rw (e, f)
+low-or a b (inr e) (inr f) = rw (e, f)
+
+max-low : (a b : ℕ) → (a % 2 ≡ 0) ⊎ (a % 2 ≡ 1) → (b % 2 ≡ 0) ⊎ (b % 2 ≡ 1) → max (a % 2) (b % 2) ≤ 1
+max-low a b (inl e) (inl f) = rw (e, f) (omega arith)
+max-low a b (inl e) (inr f) = rw (e, f) (omega arith)
+max-low a b (inr e) (inl f) = rw (e, f) (omega arith)
+max-low a b (inr e) (inr f) = rw (e, f) (omega arith)
+
+or-halves : (a b : ℕ) → (bitOr a b / 2 ≡ bitOr (a / 2) (b / 2)) × (bitOr a b % 2 ≡ max (a % 2) (b % 2))
+or-halves a b =
+    let m : ℕ = max (a % 2) (b % 2) in
+    let l : m ≤ 1 = max-low a b (odd-even a) (odd-even b) in
+    let h : ℕ = bitOr (a / 2) (b / 2) in
+    let e : bitOr a b ≡ h * 2 + m = or-step a b in
+    (omega arith, omega arith)
+
+pub marked-or : (k a b : ℕ) → isMarked (bitOr a b) k ≡ (isMarked a k || isMarked b k)
+marked-or zero a b =
+    low (bitOr a b) ∙ ap (λ x. eqb x 1) (or-halves a b .1) ∙ low-or a b (odd-even a) (odd-even b) ∙ (λ i. sym (low a) i || sym (low b) i)
+marked-or (suc k) a b =
+    high (bitOr a b) k ∙ ap (λ x. isMarked x k) (or-halves a b .0) ∙ marked-or k (a / 2) (b / 2) ∙ (λ i. sym (high a k) i || sym (high b k) i)
+
 -- ---- no bit, and the bits of a spread
-none-at : (j : ℕ) → isMarked 0 j ≡ false
+pub none-at : (j : ℕ) → isMarked 0 j ≡ false
 none-at j = rw (zero-div (2 ^ j))
 
 pub spread-none : (live : ℕ → Bool) (k remaining : ℕ) → remaining ≡ 0 → isMarked 0 ≡ spread live k remaining

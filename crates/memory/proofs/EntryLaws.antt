@@ -1,27 +1,29 @@
 -- What the functions on entries leave: a found row changed, or none; and what is held.
 -- Assumes nothing.
-use Prim.Native.Nat.{ℕ, _-_}
-use mathlib.Core.Path.{_≡_, refl, sym, ap, _∙_, fun-ext}
+use Prim.Native.Nat.{ℕ, _-_, _<_}
+use mathlib.Core.Path.{_≡_, refl, sym, ap, _∙_, subst, fun-ext}
 use mathlib.Core.Bool.{Bool, false, not, false≢true}
 use mathlib.Core.List.{List, []}
 use Rattle.laws.specs.Choice.{pick}
 use Rattle.laws.specs.Tables.{has, change}
+use Rattle.laws.proofs.Cells.{find-none}
 use Rattle.protocol.specs.declared.CsaNumber.{CsaNumber}
 use Rattle.protocol.specs.declared.Step.{Step}
 use Rattle.protocol.specs.Numbers.{newer, nextCsa, purged}
 use Rattle.protocol.specs.Messages.{CsaRecord}
-use Rattle.rules.specs.Server.{Entry, Row, free, used, holds}
+use Rattle.rules.specs.Server.{rowsMost, Entry, Row, free, used, holds}
 use Rattle.rules.specs.Rows.{entryRow, spread, filled}
 use Rattle.rules.specs.Requests.{upToDate}
 use Rattle.rules.specs.Updates.{hopsMost, value, stepped, changedRow, purgedRow, stored, valueOf, rowFor, renewed, rowsBy}
+use Rattle.memory.specs.declared.rows.Found.{Found}
 use Rattle.memory.specs.declared.rows.Found.the-variants.{At, Nothing}
-use Rattle.memory.specs.Layout.{rowPlace}
 use Rattle.memory.specs.Memory.{valueAt, isMarked, rowIn, rowsIn, memoryOf, withRows}
-use Rattle.memory.specs.Search.{firstFrom, withRow, revalued}
+use Rattle.memory.specs.Search.{FoundBelow, firstFrom, withRow, revalued}
 use Rattle.memory.specs.Marks.{changedAt}
 use Rattle.memory.specs.Entries.{received, rowsAs, putRows}
-use Rattle.memory.proofs.SearchLaws.{find-first, find-none}
-use Rattle.memory.proofs.RowPlaces.{row-case, usedRow, as-changed}
+use Rattle.memory.proofs.SearchLaws.{find-first}
+use Rattle.memory.proofs.RowPlaces.{row-case, usedRow}
+use Rattle.memory.proofs.MarkLaws.{as-changed}
 use Rattle.memory.proofs.RowInsert.{found-below, all-rows}
 use Rattle.memory.proofs.RowLaws.{found-first, has-found, change-found, has-none, change-none, found-row}
 
@@ -54,6 +56,18 @@ module _ (e : Entry) (s : List ℕ) where
     entry-new t r p =
         p ∙ ap (λ (b : Bool). withRows (pick b (change (holds e) f (rowsIn s)) (filled r (rowsIn s))) (memoryOf s)) (sym (has-none (holds e) (rowsIn s) none))
 
+-- ---- a row that was found, whatever the entry
+pub found-index : (f : Found) (i : ℕ) → FoundBelow f → f ≡ At i → i < rowsMost
+found-index f i b e = subst FoundBelow e b
+
+module _ (found : Found) (s : List ℕ) (f : Row → Row) where
+  pub found-marked : (i : ℕ) (t : List ℕ) → found ≡ At i → memoryOf t ≡ changedAt f i s
+      → (e : Entry) → found ≡ firstFrom (holds e) 0 (rowsIn s) → memoryOf t ≡ rowsAs (change (holds e) f) s
+  found-marked i t a m e g = entry-marked e s i (sym g ∙ a) f t m
+
+  pub found-absent : found ≡ Nothing → (e : Entry) → found ≡ firstFrom (holds e) 0 (rowsIn s) → memoryOf s ≡ rowsAs (change (holds e) f) s
+  found-absent a e g = entry-absent e s (sym g ∙ a) f
+
 -- ---- the rules' changes by a value and marks
 renewed-by : (live : ℕ → Bool) (k : ℕ) (r : CsaRecord) (x : Row) → revalued (valueOf r) (spread live k (r .hops - 1)) x ≡ renewed live k r x
 renewed-by live k r free = refl
@@ -76,7 +90,7 @@ pub stepped-as : (n m : CsaNumber) (x : Step) → x ≡ nextCsa n → stepped n 
 stepped-as n m x p q = sym (ap (stepped n) (sym p) ∙ q)
 
 module _ (s : List ℕ) (i : ℕ) (live : ℕ → Bool) where
-  pub changed-row : (payload : List ℕ) (n : CsaNumber) → n ≡ stepped (valueAt s (rowPlace i) .number) (nextCsa (valueAt s (rowPlace i) .number))
+  pub changed-row : (payload : List ℕ) (n : CsaNumber) → n ≡ stepped (valueAt s i .number) (nextCsa (valueAt s i .number))
       → revalued (value n payload hopsMost) live (rowIn s i) ≡ changedRow live payload (rowIn s i)
   changed-row payload n e =
       row-case s i (λ r. revalued (value n payload hopsMost) live r ≡ changedRow live payload r) refl
@@ -92,9 +106,9 @@ module _ (e : Entry) (s : List ℕ) where
   found-entry i at = find-first (holds e) (rowsIn s) i (found-first (holds e) (rowsIn s) i at) ∙ found-row s e i at
 
   pub none-entry : firstFrom (holds e) 0 (rowsIn s) ≡ Nothing → entryRow e (rowsIn s) ≡ free
-  none-entry none = find-none (holds e) (rowsIn s) (has-none (holds e) (rowsIn s) none)
+  none-entry none = find-none free (holds e) (rowsIn s) (has-none (holds e) (rowsIn s) none)
 
-  pub up-found : (n held : CsaNumber) (b : Bool) (i : ℕ) → firstFrom (holds e) 0 (rowsIn s) ≡ At i → held ≡ valueAt s (rowPlace i) .number → b ≡ newer n held
+  pub up-found : (n held : CsaNumber) (b : Bool) (i : ℕ) → firstFrom (holds e) 0 (rowsIn s) ≡ At i → held ≡ valueAt s i .number → b ≡ newer n held
       → not b ≡ upToDate n (entryRow e (rowsIn s))
   up-found n held b i at h p = ap not (p ∙ ap (newer n) h) ∙ sym (ap (upToDate n) (found-entry i at))
 

@@ -1,60 +1,104 @@
 -- Marks by their octets: what is read of them, and what an octet of marks put in place leaves.
 -- Assumes nothing.
-use Prim.Native.Nat.{ℕ, _+_, _<_}
+use Prim.Native.Nat.{ℕ, _+_, _≤_, _<_}
 use mathlib.Core.Path.{_≡_, refl, sym, ap, _∙_, subst}
-use mathlib.Core.Bool.{Bool, true, false, not, false≢true}
-use mathlib.Core.List.{List}
+use mathlib.Core.Bool.{Bool, true, false, _||_}
+use mathlib.Core.List.{List, _∷_}
 use native.Mathlib.Omega.{arith}
+use lib.Bits.{bitOr}
 use lib.Dec.{eqb}
-use lib.ListN.{length, set}
-use lib.Seq.{set-getD}
+use lib.ListN.{length, drop, set, drop-of-length-le}
+use lib.Seq.{set-getD, getD-set-same, getD-set-other, drop-cons}
+use native.Mathlib.Numerals.{add-one}
 use borrow.Author.Tests.{lt-ltb, le-ltb}
 use Rattle.laws.specs.Choice.{pick}
-use Rattle.laws.specs.Tables.{on}
+use Rattle.laws.specs.Tables.{on, has}
 use Rattle.protocol.specs.declared.CsaNumber.{CsaNumber}
-use Rattle.protocol.specs.Fields.{octet, field2, field4}
-use Rattle.protocol.specs.Numbers.{csaOf, newer}
-use Rattle.rules.specs.Server.{rowsMost, Row, free, used, isFree, isUsed, waitsFor, rowAt}
+use Rattle.protocol.specs.Fields.{octet}
+use Rattle.protocol.specs.Numbers.{newer}
+use Rattle.rules.specs.Server.{rowsMost, Row, free, waitsFor, rowAt}
 use Rattle.rules.specs.Rows.{unmarked}
 use Rattle.rules.specs.Updates.{waitsAgain, replied}
-use Rattle.memory.specs.Layout.{rowSize, requestSize, memorySize, rowPlace, markPlace, numberPlace}
-use Rattle.memory.specs.Memory.{entryAt, valueAt, isMarked, rowIn, rowsIn, memoryOf, withRows}
-use Rattle.memory.specs.Marks.{withMarks, marked, changedAt}
-use Rattle.memory.proofs.RowPlaces.{row-get, usedRow, free-row, octet-free, octet-used, row-case, as-changed, marks-are, same-row, only-marks, only-row}
-use Rattle.memory.proofs.Frame.{Same, same-within, entry-same, value-same}
+use Rattle.memory.specs.Layout.{rowSize, memorySize, rowPlace, lengthPlace, markPlace, topPlace, tagPlace}
+use Rattle.memory.specs.Memory.{isMarked, valueAt, rowIn, rowsIn, memoryOf, withRows}
+use Rattle.memory.specs.Marks.{withMarks, marked, changedAt, AnyMarks}
+use Rattle.memory.proofs.Bits.{marked-or, none-at}
+use Rattle.memory.proofs.RowPlaces.{rows-length, row-get, usedRow, octet-free, octet-used, row-case}
+use Rattle.memory.proofs.Frame.{set-before, row-but-marks, only-marks, only-row}
 
 -- ---- a row by its octets
 module _ (s : List ℕ) (i : ℕ) (h : i < rowsMost) where
   at-case : (P : Row → Type 0) → P free → P (usedRow s i) → P (rowAt (rowsIn s) i)
   at-case P a b = subst P (sym (row-get s i h)) (row-case s i P a b)
 
-  pub waits-none : (k : ℕ) → octet s (rowPlace i) ≡ 0 → false ≡ waitsFor k (rowAt (rowsIn s) i)
+  pub waits-none : (k : ℕ) → octet s (lengthPlace i) ≡ 0 → false ≡ waitsFor k (rowAt (rowsIn s) i)
   waits-none k z = sym (ap (waitsFor k) (row-get s i h ∙ octet-free s i z))
 
-  pub waits-marked : (k : ℕ) → (octet s (rowPlace i) ≡ 0 → ⊥) → isMarked (octet s (markPlace i)) k ≡ waitsFor k (rowAt (rowsIn s) i)
+  pub waits-marked : (k : ℕ) → (octet s (lengthPlace i) ≡ 0 → ⊥) → isMarked (octet s (markPlace i)) k ≡ waitsFor k (rowAt (rowsIn s) i)
   waits-marked k n = sym (ap (waitsFor k) (row-get s i h ∙ octet-used s i n))
 
--- ---- an octet of marks put in place
-module _ (s : List ℕ) (i b : ℕ) (h : i < rowsMost) (size : length s ≡ memorySize) where
-  this : rowIn (set s (markPlace i) b) i ≡ withMarks (isMarked b) (rowIn s i)
-  unfolding rowIn
-  this =
-      let t : List ℕ = set s (markPlace i) b in
-      let at : ℕ = rowPlace i in
-      let x : Same at (at + rowSize) t s = same-row s i b h size in
-      let key : octet t at ≡ octet s at = x .octets at (omega arith) (omega arith) in
-      let e : entryAt t at ≡ entryAt s at = entry-same t s at (same-within at (at + requestSize) (omega arith) (omega arith) x) in
-      let v : valueAt t at ≡ valueAt s at = value-same t s at x in
-      (λ z. pick (eqb (key z) 0) free (used (e z) (v z) (isMarked (marks-are s i b h size z)))) ∙ by (eqb (octet s at) 0)
-    where
-      by : (t : Bool) → pick t free (used (entryAt s (rowPlace i)) (valueAt s (rowPlace i)) (isMarked b)) ≡ withMarks (isMarked b) (pick t free (usedRow s i))
-      by true = refl
-      by false = refl
+-- ---- the slots that some row waits for
+module _ (s : List ℕ) where
+  waits-by : (i k : ℕ) (b : Bool) → eqb (octet s (lengthPlace i)) 0 ≡ b → waitsFor k (pick b free (usedRow s i)) ≡ isMarked (pick b 0 (octet s (markPlace i))) k
+  waits-by i k true e = sym (none-at k)
+  waits-by i k false e = refl
 
-  pub marks-put : memoryOf (set s (markPlace i) b) ≡ changedAt (withMarks (isMarked b)) i s
-  marks-put =
-      as-changed (withMarks (isMarked b)) s (set s (markPlace i) b) i h
-      (only-row i s (set s (markPlace i) b) h (only-marks i s b h) (withMarks (isMarked b) (rowIn s i)) this)
+  row-waits : (i k : ℕ) → waitsFor k (rowIn s i) ≡ isMarked (pick (eqb (octet s (lengthPlace i)) 0) 0 (octet s (markPlace i))) k
+  unfolding rowIn
+  row-waits i k = waits-by i k (eqb (octet s (lengthPlace i)) 0) refl
+
+  -- of the rows before i
+  pub record MarksTo (i all : ℕ) : Type 0 where
+    pub within : i ≤ rowsMost
+    pub marks : (k : ℕ) → has (waitsFor k) (rowsIn s) ≡ (isMarked all k || has (waitsFor k) (drop i (rowsIn s)))
+
+  pub marks-none : MarksTo 0 0
+  marks-none = record { within = omega arith; marks = λ k. ap (λ b. b || has (waitsFor k) (rowsIn s)) (sym (none-at k)) }
+
+  or-assoc : (a b c : Bool) → (a || (b || c)) ≡ ((a || b) || c)
+  or-assoc true b c = refl
+  or-assoc false b c = refl
+
+  pub marks-more : (i all x all′ : ℕ) → i < rowsMost → MarksTo i all → x ≡ pick (eqb (octet s (lengthPlace i)) 0) 0 (octet s (markPlace i)) → all′ ≡ bitOr all x → MarksTo (i + 1) all′
+  marks-more i all x all′ h m e f =
+      let n : length (rowsIn s) ≡ rowsMost = rows-length s in
+      record {
+        within = omega arith;
+        marks = λ k.
+            let p : Row → Bool = waitsFor k in
+            let w : p (rowAt (rowsIn s) i) ≡ isMarked x k = ap p (row-get s i h) ∙ row-waits i k ∙ ap (λ y. isMarked y k) (sym e) in
+            let d : drop i (rowsIn s) ≡ rowAt (rowsIn s) i ∷ drop (i + 1) (rowsIn s) = rw add-one (drop-cons (rowsIn s) i free (omega arith)) in
+            m .marks k ∙ ap (λ l. isMarked all k || has p l) d
+            ∙ or-assoc (isMarked all k) (p (rowAt (rowsIn s) i)) (has p (drop (i + 1) (rowsIn s)))
+            ∙ ap (λ b. (isMarked all k || b) || has p (drop (i + 1) (rowsIn s))) w
+            ∙ ap (λ b. b || has p (drop (i + 1) (rowsIn s))) (sym (ap (λ y. isMarked y k) f ∙ marked-or k all x));
+      }
+
+  or-none : (a : Bool) → (a || false) ≡ a
+  or-none true = refl
+  or-none false = refl
+
+  pub marks-all : (i all : ℕ) → rowsMost ≤ i → MarksTo i all → AnyMarks (rowsIn s) all
+  marks-all i all h m =
+      let n : length (rowsIn s) ≡ rowsMost = rows-length s in
+      λ k. sym (m .marks k ∙ ap (λ l. isMarked all k || has (waitsFor k) l) (drop-of-length-le (rowsIn s) {i = i} (omega arith)) ∙ or-none (isMarked all k))
+
+-- ---- an octet of marks put in place
+pub as-changed : (f : Row → Row) (s t : List ℕ) (i : ℕ) → i < rowsMost → memoryOf t ≡ withRows (set (rowsIn s) i (f (rowIn s i))) (memoryOf s) → memoryOf t ≡ changedAt f i s
+as-changed f s t i h e = e ∙ ap (λ (r : Row). withRows (set (rowsIn s) i (f r)) (memoryOf s)) (sym (row-get s i h))
+
+pub marks-put : (s : List ℕ) (i b : ℕ) → i < rowsMost → length s ≡ memorySize → memoryOf (set s (markPlace i) b) ≡ changedAt (withMarks (isMarked b)) i s
+marks-put s i b h size =
+    as-changed (withMarks (isMarked b)) s (set s (markPlace i) b) i h
+    (only-row i s (set s (markPlace i) b) h (only-marks i s b) ∙ ap (λ r. withRows (set (rowsIn s) i r) (memoryOf s)) this)
+  where
+    this : rowIn (set s (markPlace i) b) i ≡ withMarks (isMarked b) (rowIn s i)
+    this = row-but-marks i s (set s (markPlace i) b) b
+        (set-before s (markPlace i) b (rowPlace i) (rowPlace i + rowSize) (omega arith))
+        (getD-set-other s (markPlace i) (lengthPlace i) b 0 (λ q. omega arith))
+        (getD-set-same s (markPlace i) b 0 (omega arith))
+        (getD-set-other s (markPlace i) (topPlace i) b 0 (λ q. omega arith))
+        (getD-set-other s (markPlace i) (tagPlace i) b 0 (λ q. omega arith))
 
 -- ---- row i changed, by another function
 pub changed-as : (f g : Row → Row) (s : List ℕ) (i : ℕ) → f (rowAt (rowsIn s) i) ≡ g (rowAt (rowsIn s) i) → changedAt f i s ≡ changedAt g i s
@@ -66,13 +110,6 @@ unfolding memoryOf
 changed-not f s i e = ap (λ (rows : List Row). withRows rows (memoryOf s)) (sym (ap (set (rowsIn s) i) e ∙ set-getD (rowsIn s) i free))
 
 module _ (s : List ℕ) (i : ℕ) (h : i < rowsMost) where
-  -- a free row
-  pub free-same : (f : Row → Row) → f free ≡ free → isUsed (rowIn s i) ≡ false → memoryOf s ≡ changedAt f i s
-  free-same f e u = let r : rowAt (rowsIn s) i ≡ free = row-get s i h ∙ free-row s i u in changed-not f s i (ap f r ∙ e ∙ sym r)
-
-  pub not-free : {A : Type 0} → isUsed (rowIn s i) ≡ true → isFree (rowAt (rowsIn s) i) ≡ true → A
-  not-free u f = absurd (false≢true (sym (ap not (ap isFree (sym (row-get s i h)) ∙ f)) ∙ u))
-
   -- the marks put are those that were, but for slot k
   pub marks-on : (k b r : ℕ) (v : Bool) → b ≡ octet s (markPlace i) → isMarked r ≡ on k v (isMarked b)
       → withMarks (isMarked r) (rowAt (rowsIn s) i) ≡ withMarks (on k v (isMarked (octet s (markPlace i)))) (rowAt (rowsIn s) i)
@@ -84,15 +121,15 @@ module _ (s : List ℕ) (i : ℕ) (h : i < rowsMost) where
   pub row-unmarked : (k : ℕ) → withMarks (on k false (isMarked (octet s (markPlace i)))) (rowAt (rowsIn s) i) ≡ unmarked k (rowAt (rowsIn s) i)
   row-unmarked k = at-case s i h (λ r. withMarks (on k false (isMarked (octet s (markPlace i)))) r ≡ unmarked k r) refl refl
 
-  -- a row owes its slot a record, if hops remain
-  pub owed-not : (k : ℕ) → field2 s (rowPlace i + 2) ≡ 0 → waitsAgain k (rowAt (rowsIn s) i) ≡ rowAt (rowsIn s) i
-  owed-not k z = at-case s i h (λ r. waitsAgain k r ≡ r) refl (rw (le-ltb 0 (field2 s (rowPlace i + 2)) (omega arith)))
+  -- it waits again, if hops remain
+  pub again-not : (k : ℕ) → valueAt s i .remaining ≡ 0 → waitsAgain k (rowAt (rowsIn s) i) ≡ rowAt (rowsIn s) i
+  again-not k z = at-case s i h (λ r. waitsAgain k r ≡ r) refl (rw (le-ltb 0 (valueAt s i .remaining) (omega arith)))
 
-  pub owed-so : (k : ℕ) → (field2 s (rowPlace i + 2) ≡ 0 → ⊥) → marked k (rowAt (rowsIn s) i) ≡ waitsAgain k (rowAt (rowsIn s) i)
-  owed-so k n = at-case s i h (λ r. marked k r ≡ waitsAgain k r) refl (rw (lt-ltb 0 (field2 s (rowPlace i + 2)) (omega arith)))
+  pub again-so : (k : ℕ) → (valueAt s i .remaining ≡ 0 → ⊥) → marked k (rowAt (rowsIn s) i) ≡ waitsAgain k (rowAt (rowsIn s) i)
+  again-so k n = at-case s i h (λ r. marked k r ≡ waitsAgain k r) refl (rw (lt-ltb 0 (valueAt s i .remaining) (omega arith)))
 
-  -- a reply settles a row, if its number is the one held
-  module _ (k : ℕ) (number held : CsaNumber) (e : held ≡ csaOf (field4 s (rowPlace i + numberPlace))) where
+  -- a reply takes the mark, if its number is the one held
+  module _ (k : ℕ) (number held : CsaNumber) (e : held ≡ valueAt s i .number) where
     pub replied-newer : newer number held ≡ true → replied k number (rowAt (rowsIn s) i) ≡ rowAt (rowsIn s) i
     replied-newer t = at-case s i h (λ r. replied k number r ≡ r) refl (rw (ap (newer number) (sym e) ∙ t))
 

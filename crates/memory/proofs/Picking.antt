@@ -1,6 +1,6 @@
 -- The next rows by a loop: what is chosen so far, and what is left to look at.
 -- Assumes nothing.
-use Prim.Native.Nat.{ℕ, zero, suc, _+_, _-_, _≤_, _<_}
+use Prim.Native.Nat.{ℕ, zero, suc, _+_, _-_, _%_, _≤_, _<_}
 use mathlib.Core.Path.{_≡_, refl, sym, ap, _∙_, subst}
 use mathlib.Core.Logic.{_⊎_, inl, inr}
 use mathlib.Core.Bool.{Bool, true, false, not}
@@ -11,7 +11,10 @@ use native.Mathlib.Omega.{arith}
 use lib.ListN.{length, take, getD, set, length-set}
 use lib.Seq.{take-suc-set, getD-set-same}
 use Rattle.laws.specs.Lists.{isEmpty}
-use Rattle.rules.specs.Rows.{next, behind}
+use Rattle.laws.specs.Tables.{has}
+use Rattle.laws.proofs.Cells.{has-false}
+use Rattle.rules.specs.Server.{rowsMost, Row, free, waitsFor, rowAt}
+use Rattle.rules.specs.Rows.{next, behind, nextWaiting}
 use Rattle.memory.specs.Marks.{Picked}
 
 next-none : (p : ℕ → Bool) (left at : ℕ) → next p left 0 at ≡ []
@@ -128,3 +131,15 @@ module _ (p : ℕ → Bool) where
 
   pub some-miss : (left left′ at : ℕ) → left ≡ suc left′ → p at ≡ false → not (isEmpty (next p left 1 at)) ≡ not (isEmpty (next p left′ 1 (at + 1)))
   some-miss left left′ at e m = rw (e, add-one) (ap (λ (l : List ℕ). not (isEmpty l)) (next-miss p left′ at 1 m))
+
+-- ---- no row waits
+next-empty : (p : ℕ → Bool) → ((j : ℕ) → p j ≡ false) → (left n at : ℕ) → next p left n at ≡ []
+unfolding next
+next-empty p h zero n at = refl
+next-empty p h (suc left) n at = next-miss p left at n (h at) ∙ next-empty p h left n (suc at)
+
+pub picked-none : (rows : List Row) (k from : ℕ) (cells : List ℕ) → length cells ≡ 4 → has (waitsFor k) rows ≡ false
+    → Picked from (nextWaiting rows k from) (record { count = 0; rows = cells; next = from })
+picked-none rows k from cells n h =
+    let e : nextWaiting rows k from ≡ [] = next-empty (λ i. waitsFor k (rowAt rows (i % rowsMost))) (λ j. has-false free (waitsFor k) refl rows h (j % rowsMost)) rowsMost 4 from in
+    record { chosen = sym e; onward = sym (ap (behind from) e); few = omega arith; full = n }

@@ -2,7 +2,7 @@
 -- Assumes nothing.
 use Prim.Native.Nat.{ℕ, _+_, _*_, _-_, _/_, _%_, _≤_, _<_, min}
 use mathlib.Core.Path.{_≡_, refl, sym, ap, _∙_, subst}
-use mathlib.Core.Bool.{Bool, true, false}
+use mathlib.Core.Bool.{Bool, true, false, _&&_}
 use mathlib.Core.List.{List, [], _++_, append-nil}
 use mathlib.Core.Logic.{inl}
 use native.Mathlib.Omega.{arith}
@@ -13,6 +13,7 @@ use mir.Val.{SFits}
 use mir.ValLaws.{toZ-ofZ}
 use Rattle.laws.specs.Lists.{part}
 use Rattle.laws.specs.Puts.{putAt}
+use Rattle.laws.specs.Tables.{same}
 use Rattle.laws.proofs.Bools.{and-true}
 use Rattle.laws.proofs.Tables.{same-true}
 use Rattle.laws.proofs.Puts.{put-length}
@@ -27,6 +28,15 @@ use Rattle.memory.specs.Search.{entry}
 use Rattle.memory.specs.Lists.{requestOf, headOf, roomsIn, noRequest, Listed}
 use Rattle.memory.proofs.Frame.{put-other, part-same, put-before}
 use Rattle.memory.proofs.Rooms.{part-put, request-of, rooms-length, rooms-get, requests-in, listed-none, listed-room, listed-size}
+
+-- ---- the entry at a place
+module _ (e : Entry) (k o : List ℕ) {a : List ℕ} {p : Bool} (key : a ≡ e .key) (hit : p ≡ same a k) where
+  pub entry-hit : {b : List ℕ} {q : Bool} → p ≡ true → b ≡ e .originator → q ≡ same b o → q ≡ sameEntry e (entry k o)
+  entry-hit t originator r =
+      r ∙ ap (λ x. same x o) originator ∙ ap (λ x. x && same (e .originator) o) (sym t ∙ hit ∙ ap (λ x. same x k) key)
+
+  pub entry-miss : p ≡ false → false ≡ sameEntry e (entry k o)
+  entry-miss t = ap (λ x. x && same (e .originator) o) (sym t ∙ hit ∙ ap (λ x. same x k) key)
 
 -- ---- the list's size
 pub counted : (s : List ℕ) (k at n : ℕ) → at ≡ listPlace k → n ≡ min (field2 s at) 64 → (n ≡ length (requestsIn s k)) × (n ≤ 64)

@@ -5,15 +5,16 @@ use mathlib.Core.Path.{_≡_, refl, sym, ap, _∙_}
 use mathlib.Core.List.{List, [], _∷_, _++_}
 use native.Mathlib.Nat.{add-zero, div-add-mod'}
 use native.Mathlib.Omega.{arith, ne-cases}
-use lib.ListN.{length, take, drop, getD, set}
+use lib.ListN.{length, take, drop, getD, set, length-drop}
 use lib.Seq.{take-nil, getD-take, getD-drop, take-take, drop-drop, take-at, drop-at, length-take-le, set-set}
 use Rattle.laws.specs.Lists.{part}
 use Rattle.laws.specs.Puts.{putAt}
+use Rattle.laws.proofs.Lists.{take-short}
 use Rattle.protocol.specs.Fields.{octet, field2, put2}
 use Rattle.protocol.specs.Numbers.{csaOf}
 use Rattle.rules.specs.Server.{slotsMost, requestsMost, Request}
 use Rattle.memory.specs.Layout.{requestSize, listSize, memorySize, listPlace, requestPlace}
-use Rattle.memory.specs.Memory.{requestIn, requestsIn, memoryOf, withRequests, requestsOf}
+use Rattle.memory.specs.Memory.{entryAt, requestIn, requestsIn, memoryOf, withRequests, requestsOf}
 use Rattle.memory.specs.Lists.{requestOf, roomsIn, noRequest, Listed}
 use Rattle.memory.proofs.Frame.{put-inside, put-before, put-behind, same-refl, field2-same, table-same, table-set, table-get, table-length, request-same, list-changed}
 
@@ -157,3 +158,13 @@ module _ {k n : ℕ} {l : List Request} {s t : List ℕ} where
 
   pub listed-memory : Listed k n l s t → memoryOf t ≡ withRequests k (take n l) (memoryOf s)
   listed-memory p = p .others ∙ ap (λ (z : List Request). withRequests k z (memoryOf s)) (listed-requests p)
+
+-- ---- the lengths of what is read in a room
+pub asked-key-short : (s : List ℕ) (at : ℕ) → length (entryAt s at .key) ≤ 16
+asked-key-short s at =
+    let a : length (take (octet s at) (part s (at + 12) 16)) ≤ length (part s (at + 12) 16) = take-short (octet s at) (part s (at + 12) 16) .1 in
+    let b : length (part s (at + 12) 16) ≤ 16 = take-short 16 (drop (at + 12) s) .0 in
+    omega arith
+
+pub asked-originator-long : (s : List ℕ) (at : ℕ) → at + requestSize ≤ length s → length (entryAt s at .originator) ≡ 4
+asked-originator-long s at h = length-take-le 4 (drop (at + 8) s) (simp length-drop (omega arith))

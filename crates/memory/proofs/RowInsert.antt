@@ -12,7 +12,7 @@ use Rattle.rules.specs.Server.{rowsMost, Entry, Value, Row, used, isFree}
 use Rattle.memory.specs.declared.rows.Found.the-variants.{At, Nothing}
 use Rattle.memory.specs.declared.store.Inserted.the-variants.{Stored, Full}
 use Rattle.memory.specs.Memory.{rowsIn, memoryOf, withRows}
-use Rattle.memory.specs.Search.{firstFrom, PutRow, Inserts}
+use Rattle.memory.specs.Search.{firstFrom, withRow, Inserts}
 use Rattle.memory.proofs.SearchLaws.{First, found, none-found, has-first, change-first}
 use Rattle.memory.proofs.RowPlaces.{rows-length}
 
@@ -23,13 +23,13 @@ pub all-rows : (s : List ℕ) → memoryOf s ≡ withRows (rowsIn s) (memoryOf s
 unfolding memoryOf
 all-rows s = refl
 
-pub insert-stored : (s t : List ℕ) (i : ℕ) (e : Entry) (v : Value) (m : ℕ → Bool) → firstFrom isFree 0 (rowsIn s) ≡ At i → PutRow i e v m s t
+pub insert-stored : (s t : List ℕ) (i : ℕ) (e : Entry) (v : Value) (m : ℕ → Bool) → firstFrom isFree 0 (rowsIn s) ≡ At i → memoryOf t ≡ withRow s i (used e v m)
     → Inserts (used e v m) s t Stored
 insert-stored s t i e v m at put =
     let f : First isFree (rowsIn s) i = found isFree (rowsIn s) i at in
     let h : has isFree (rowsIn s) ≡ true = has-first isFree (rowsIn s) i f in
     record {
-      rows = put .rows ∙ ap (λ z. withRows z (memoryOf s)) (sym (change-first isFree (λ _. used e v m) (rowsIn s) i f));
+      rows = put ∙ ap (λ z. withRows z (memoryOf s)) (sym (change-first isFree (λ _. used e v m) (rowsIn s) i f));
       answer = rw h;
       kept = λ q. absurd (false≢true (sym q ∙ h));
     }

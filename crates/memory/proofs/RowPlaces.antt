@@ -1,29 +1,28 @@
--- A row by its octets, and what changes when some of them are put.
+-- A row by its octets: free or used, its name, its entry and what stands around it.
 -- Assumes nothing.
 use Prim.Native.Nat.{ℕ, _+_, _-_, _≤_, _<_}
 use mathlib.Core.Path.{_≡_, refl, sym, ap, _∙_}
-use mathlib.Core.Bool.{Bool, true, false, not, false≢true}
-use mathlib.Core.List.{List}
-use native.Mathlib.Omega.{arith, ne-cases}
+use mathlib.Core.Bool.{Bool, true, false, not, _&&_, false≢true}
+use mathlib.Core.List.{List, [], _++_}
+use native.Mathlib.Omega.{arith}
 use lib.Dec.{eqb}
-use lib.ListN.{length, take, drop, set, length-take, length-drop}
-use lib.Seq.{length-take-le, getD-set-same}
-use borrow.Author.Tests.{eqb-false, eq-eqb, ne-eqb, not-true}
+use lib.ListN.{length, take, drop, length-drop}
+use lib.Seq.{take-append-seam, drop-append-seam}
+use borrow.Author.Tests.{eq-eqb, ne-eqb}
 use Rattle.laws.specs.Choice.{pick}
 use Rattle.laws.specs.Lists.{part}
-use Rattle.laws.specs.Puts.{putAt}
+use Rattle.laws.specs.Tables.{same}
 use Rattle.laws.proofs.Bools.{pick-of}
-use Rattle.laws.proofs.Lists.{take-short}
+use Rattle.laws.proofs.Lists.{part-length, part-split, take-short}
 use Rattle.protocol.specs.Sizes.{idLength, keyMost, payloadMost}
 use Rattle.protocol.specs.Fields.{octet}
-use Rattle.rules.specs.Server.{rowsMost, Row, free, used, isUsed, rowAt}
-use Rattle.memory.specs.Layout.{rowSize, requestsAt, requestSize, memorySize, rowPlace, markPlace}
-use Rattle.memory.specs.Memory.{entryAt, valueAt, isMarked, rowIn, rowsIn, memoryOf, withRows}
-use Rattle.memory.specs.Search.{withRow}
-use Rattle.memory.specs.Marks.{changedAt}
-use Rattle.memory.proofs.Frame.{Same, put-before, put-behind, set-before, set-behind, same-trans, same-within, table-get, table-length, row-same, rows-changed, row-changed}
+use Rattle.rules.specs.Server.{rowsMost, Entry, Row, free, used, isUsed, holds, rowAt}
+use Rattle.memory.specs.Layout.{namePlace, memorySize, rowPlace, lengthPlace, markPlace, tagPlace}
+use Rattle.memory.specs.Memory.{entryNamed, tagOf, withoutKey, isMarked, keyRoom, rowName, rowEntry, payloadLength, payloadPlace, valueAt, rowIn, rowsIn, memoryOf}
+use Rattle.memory.proofs.NameLaws.{tagged-is}
+use Rattle.memory.proofs.Frame.{table-get, table-length}
 
--- ---- a row read
+-- ---- the rows
 pub rows-are : (s : List ℕ) → memoryOf s .rows ≡ rowsIn s
 unfolding memoryOf
 rows-are s = refl
@@ -36,17 +35,26 @@ pub row-get : (s : List ℕ) (i : ℕ) → i < rowsMost → rowAt (rowsIn s) i �
 unfolding rowsIn
 row-get s i h = table-get (rowIn s) rowsMost i free h
 
+-- ---- free or used: told by the octet of the key length
 module _ (s : List ℕ) (i : ℕ) where
   abbrev pub usedRow : Row
-  usedRow = used (entryAt s (rowPlace i)) (valueAt s (rowPlace i)) (isMarked (octet s (markPlace i)))
+  usedRow = used (rowEntry s i) (valueAt s i) (isMarked (octet s (markPlace i)))
 
   used-by : (b : Bool) → isUsed (pick b free usedRow) ≡ not b
   used-by true = refl
   used-by false = refl
 
-  pub is-used : isUsed (rowIn s i) ≡ not (eqb (octet s (rowPlace i)) 0)
+  pub is-used : isUsed (rowIn s i) ≡ not (eqb (octet s (lengthPlace i)) 0)
   unfolding rowIn
-  is-used = used-by (eqb (octet s (rowPlace i)) 0)
+  is-used = used-by (eqb (octet s (lengthPlace i)) 0)
+
+  pub octet-free : octet s (lengthPlace i) ≡ 0 → rowIn s i ≡ free
+  unfolding rowIn
+  octet-free z = ap (λ b. pick b free usedRow) (eq-eqb (octet s (lengthPlace i)) 0 z)
+
+  pub octet-used : (octet s (lengthPlace i) ≡ 0 → ⊥) → rowIn s i ≡ usedRow
+  unfolding rowIn
+  octet-used n = ap (λ b. pick b free usedRow) (ne-eqb (octet s (lengthPlace i)) 0 n)
 
   used-as : (b : Bool) → isUsed (pick b free usedRow) ≡ true → pick b free usedRow ≡ usedRow
   used-as true h = absurd (false≢true h)
@@ -55,7 +63,7 @@ module _ (s : List ℕ) (i : ℕ) where
   -- a used row is its entry, its value and its marks
   pub used-row : isUsed (rowIn s i) ≡ true → rowIn s i ≡ usedRow
   unfolding rowIn
-  used-row h = used-as (eqb (octet s (rowPlace i)) 0) h
+  used-row h = used-as (eqb (octet s (lengthPlace i)) 0) h
 
   free-as : (b : Bool) → isUsed (pick b free usedRow) ≡ false → pick b free usedRow ≡ free
   free-as true h = refl
@@ -63,94 +71,122 @@ module _ (s : List ℕ) (i : ℕ) where
 
   pub free-row : isUsed (rowIn s i) ≡ false → rowIn s i ≡ free
   unfolding rowIn
-  free-row h = free-as (eqb (octet s (rowPlace i)) 0) h
-
-  -- told by the octet of its key length
-  pub octet-free : octet s (rowPlace i) ≡ 0 → rowIn s i ≡ free
-  unfolding rowIn
-  octet-free z = ap (λ b. pick b free usedRow) (eq-eqb (octet s (rowPlace i)) 0 z)
-
-  pub octet-used : (octet s (rowPlace i) ≡ 0 → ⊥) → rowIn s i ≡ usedRow
-  unfolding rowIn
-  octet-used n = ap (λ b. pick b free usedRow) (ne-eqb (octet s (rowPlace i)) 0 n)
+  free-row h = free-as (eqb (octet s (lengthPlace i)) 0) h
 
   -- what holds of a free row and of a used one with these octets
   pub row-case : (P : Row → Type 0) → P free → P usedRow → P (rowIn s i)
   unfolding rowIn
-  row-case P a b = pick-of P (eqb (octet s (rowPlace i)) 0) free usedRow a b
+  row-case P a b = pick-of P (eqb (octet s (lengthPlace i)) 0) free usedRow a b
 
--- a row put at i, where it is f of the row there
-pub as-changed : (f : Row → Row) (s t : List ℕ) (i : ℕ) → i < rowsMost → memoryOf t ≡ withRow s i (f (rowIn s i)) → memoryOf t ≡ changedAt f i s
-as-changed f s t i h e = e ∙ ap (λ (r : Row). withRow s i (f r)) (sym (row-get s i h))
-
--- the lengths of what is read
-pub key-short : (s : List ℕ) (at : ℕ) → length (entryAt s at .key) ≤ keyMost
-key-short s at =
-    let a : length (take (octet s at) (part s (at + 12) 16)) ≤ length (part s (at + 12) 16) = take-short (octet s at) (part s (at + 12) 16) .1 in
-    let b : length (part s (at + 12) 16) ≤ 16 = take-short 16 (drop (at + 12) s) .0 in
+-- ---- the lengths of what is read, in any memory
+name-short : (s : List ℕ) (i : ℕ) → length (rowName s i) ≤ 20
+name-short s i =
+    let a : length (rowName s i) ≤ keyRoom s i + idLength = take-short (keyRoom s i + idLength) (drop (rowPlace i + namePlace) s) .0 in
     omega arith
 
-pub payload-short : (s : List ℕ) (at : ℕ) → length (valueAt s at .payload) ≤ payloadMost
-payload-short s at =
-    let a : length (take (octet s (at + 1)) (part s (at + 28) 32)) ≤ length (part s (at + 28) 32) = take-short (octet s (at + 1)) (part s (at + 28) 32) .1 in
-    let b : length (part s (at + 28) 32) ≤ 32 = take-short 32 (drop (at + 28) s) .0 in
+key-short-by : (name : List ℕ) (b : Bool) → length name ≤ 20 → length (pick b (entryNamed name) (withoutKey (entryNamed name)) .key) ≤ 16
+key-short-by name true h = let a = take-short (length name - idLength) name .0 in omega arith
+key-short-by name false h = omega arith
+
+pub key-short : (s : List ℕ) (i : ℕ) → length (rowEntry s i .key) ≤ keyMost
+key-short s i = key-short-by (rowName s i) (eqb (octet s (tagPlace i)) (tagOf (rowName s i))) (name-short s i)
+
+originator-short-by : (name : List ℕ) (b : Bool) → length (pick b (entryNamed name) (withoutKey (entryNamed name)) .originator) ≤ 4
+originator-short-by name true = let a = length-drop (length name - idLength) name in omega arith
+originator-short-by name false = let a = length-drop (length name - idLength) name in omega arith
+
+pub originator-short : (s : List ℕ) (i : ℕ) → length (rowEntry s i .originator) ≤ idLength
+originator-short s i = originator-short-by (rowName s i) (eqb (octet s (tagPlace i)) (tagOf (rowName s i)))
+
+pub payload-short : (s : List ℕ) (i : ℕ) → length (valueAt s i .payload) ≤ payloadMost
+payload-short s i =
+    let a : length (valueAt s i .payload) ≤ payloadLength s i = take-short (payloadLength s i) (drop (payloadPlace s i) s) .0 in
     omega arith
 
-pub originator-long : (s : List ℕ) (at : ℕ) → at + requestSize ≤ length s → length (entryAt s at .originator) ≡ idLength
-originator-long s at h = length-take-le 4 (drop (at + 8) s) (simp length-drop (omega arith))
+-- ---- its name, and what stands around it
+module _ (s : List ℕ) (i : ℕ) (size : length s ≡ memorySize) (h : i < rowsMost) where
+  pub name-length : length (rowName s i) ≡ keyRoom s i + idLength
+  name-length = part-length s (rowPlace i + namePlace) (keyRoom s i + idLength) (omega arith)
 
-pub key-some : (s : List ℕ) (i : ℕ) → i < rowsMost → length s ≡ memorySize → isUsed (rowIn s i) ≡ true → 1 ≤ length (entryAt s (rowPlace i) .key)
-key-some s i h l u =
-    let at : ℕ = rowPlace i in
-    let n : octet s at ≡ 0 → ⊥ = eqb-false (octet s at) 0 (not-true (eqb (octet s at) 0) (sym (is-used s i) ∙ u)) in
-    let r : length (part s (at + 12) 16) ≡ 16 = length-take-le 16 (drop (at + 12) s) (simp length-drop (omega arith)) in
-    let t = length-take (octet s at) (part s (at + 12) 16) in
-    omega (arith, t, n)
+  abbrev key-part : List ℕ
+  key-part = part s (rowPlace i + namePlace) (keyRoom s i)
 
--- ---- an octet of marks put
-module _ (s : List ℕ) (i x : ℕ) (h : i < rowsMost) (l : length s ≡ memorySize) where
-  pub marks-are : octet (set s (markPlace i) x) (markPlace i) ≡ x
-  marks-are = getD-set-same s (markPlace i) x 0 (omega arith)
+  abbrev originator-part : List ℕ
+  originator-part = part s (rowPlace i + namePlace + keyRoom s i) idLength
 
-  pub same-row : Same (rowPlace i) (rowPlace i + rowSize) (set s (markPlace i) x) s
-  same-row = set-before s (markPlace i) x (rowPlace i) (rowPlace i + rowSize) (omega arith)
+  key-length : length key-part ≡ keyRoom s i
+  key-length = part-length s (rowPlace i + namePlace) (keyRoom s i) (omega arith)
 
--- ---- only row i changes
-pub record RowOnly (i : ℕ) (s t : List ℕ) : Type 0 where
-  pub before : Same 0 (rowPlace i) t s
-  pub between : Same (rowPlace i + rowSize) (markPlace i) t s
-  pub behind : Same (markPlace i + 1) memorySize t s
+  name-split : rowName s i ≡ key-part ++ originator-part
+  name-split = part-split s (rowPlace i + namePlace) (keyRoom s i) idLength (rowPlace i + namePlace + keyRoom s i) refl
 
-pub only-trans : (i : ℕ) (s t u : List ℕ) → RowOnly i s t → RowOnly i t u → RowOnly i s u
-only-trans i s t u p q = record {
-  before = same-trans (q .before) (p .before);
-  between = same-trans (q .between) (p .between);
-  behind = same-trans (q .behind) (p .behind);
-}
+  less-four : length (rowName s i) - idLength ≡ length key-part
+  less-four = let a = name-length in let b = key-length in omega arith
 
-pub only-put : (i : ℕ) (s v : List ℕ) (at : ℕ) → i < rowsMost → length s ≡ memorySize → rowPlace i ≤ at → at + length v ≤ rowPlace i + rowSize
-    → RowOnly i s (putAt s at v)
-only-put i s v at h l p q = record {
-  before = put-before s v at (omega arith) 0 (rowPlace i) (omega arith);
-  between = put-behind s v at (omega arith) (rowPlace i + rowSize) (markPlace i) (omega arith);
-  behind = put-behind s v at (omega arith) (markPlace i + 1) memorySize (omega arith);
-}
+  named-key : entryNamed (rowName s i) .key ≡ key-part
+  named-key = (λ z. take (less-four z) (name-split z)) ∙ take-append-seam key-part originator-part
 
-pub only-marks : (i : ℕ) (s : List ℕ) (x : ℕ) → i < rowsMost → RowOnly i s (set s (markPlace i) x)
-only-marks i s x h = record {
-  before = set-before s (markPlace i) x 0 (rowPlace i) (omega arith);
-  between = set-before s (markPlace i) x (rowPlace i + rowSize) (markPlace i) (omega arith);
-  behind = set-behind s (markPlace i) x (markPlace i + 1) memorySize (omega arith);
-}
+  named-originator : entryNamed (rowName s i) .originator ≡ originator-part
+  named-originator = (λ z. drop (less-four z) (name-split z)) ∙ drop-append-seam key-part originator-part
 
-module _ (i : ℕ) (s t : List ℕ) (h : i < rowsMost) (only : RowOnly i s t) where
-  other : (j : ℕ) → j < rowsMost → (j ≡ i → ⊥) → rowIn t j ≡ rowIn s j
-  other j k n =
-      ne-cases j i (rowIn t j ≡ rowIn s j) n
-      (λ a. row-same t s j (same-within (rowPlace j) (rowPlace j + rowSize) (omega arith) (omega arith) (only .before)) (only .between .octets (markPlace j) (omega arith) (omega arith)))
-      (λ a. row-same t s j (same-within (rowPlace j) (rowPlace j + rowSize) (omega arith) (omega arith) (only .between)) (only .behind .octets (markPlace j) (omega arith) (omega arith)))
+  -- the entry has this key where the tag is that of the name, and none where it is not
+  entry-by : (b : Bool) → pick b (entryNamed (rowName s i)) (withoutKey (entryNamed (rowName s i))) ≡ record { key = pick b key-part []; originator = originator-part }
+  entry-by true = λ z. record { key = named-key z; originator = named-originator z }
+  entry-by false = λ z. record { key = []; originator = named-originator z }
 
-  pub only-row : (r : Row) → rowIn t i ≡ r → memoryOf t ≡ withRow s i r
-  only-row r e =
-      rows-changed s t (same-within requestsAt memorySize (omega arith) (omega arith) (only .behind))
-      ∙ ap (λ z. withRows z (memoryOf s)) (row-changed s t i h other ∙ ap (set (rowsIn s) i) e)
+  pub entry-is : rowEntry s i ≡ record { key = pick (eqb (octet s (tagPlace i)) (tagOf (rowName s i))) key-part []; originator = originator-part }
+  entry-is = entry-by (eqb (octet s (tagPlace i)) (tagOf (rowName s i)))
+
+  pub originator-long : length (rowEntry s i .originator) ≡ idLength
+  originator-long = ap (λ (x : Entry). length (x .originator)) entry-is ∙ part-length s (rowPlace i + namePlace + keyRoom s i) idLength (omega arith)
+
+  pub tag-key : octet s (tagPlace i) ≡ tagOf (rowName s i) → keyRoom s i ≡ length (rowEntry s i .key)
+  tag-key e = sym (ap (λ (x : Entry). length (x .key)) entry-is ∙ ap (λ b. length (pick b key-part [])) (eq-eqb (octet s (tagPlace i)) (tagOf (rowName s i)) e) ∙ key-length)
+
+  pub tag-none : (octet s (tagPlace i) ≡ tagOf (rowName s i) → ⊥) → 0 ≡ length (rowEntry s i .key)
+  tag-none n = sym (ap (λ (x : Entry). length (x .key)) entry-is ∙ ap (λ b. length (pick b key-part [])) (ne-eqb (octet s (tagPlace i)) (tagOf (rowName s i)) n))
+
+  -- from the key on, n its length, and m octets behind the originator
+  around-by : (b : Bool) (n m : ℕ) → n ≡ length (pick b key-part [])
+      → part s (rowPlace i + namePlace + keyRoom s i - n) (n + idLength + m) ≡ (pick b key-part [] ++ originator-part) ++ part s (rowPlace i + namePlace + keyRoom s i + idLength) m
+  around-by true n m e =
+      let k : n ≡ keyRoom s i = e ∙ key-length in
+      let from : rowPlace i + namePlace + keyRoom s i - n ≡ rowPlace i + namePlace = omega arith in
+      let size : n + idLength + m ≡ keyRoom s i + idLength + m = omega arith in
+      let z : rowPlace i + namePlace + keyRoom s i + idLength ≡ rowPlace i + namePlace + (keyRoom s i + idLength) = omega arith in
+      (λ z. part s (from z) (size z))
+      ∙ part-split s (rowPlace i + namePlace) (keyRoom s i + idLength) m (rowPlace i + namePlace + keyRoom s i + idLength) z
+      ∙ ap (λ l. l ++ part s (rowPlace i + namePlace + keyRoom s i + idLength) m) name-split
+  around-by false n m e =
+      let from : rowPlace i + namePlace + keyRoom s i - n ≡ rowPlace i + namePlace + keyRoom s i = omega arith in
+      let size : n + idLength + m ≡ idLength + m = omega arith in
+      (λ z. part s (from z) (size z))
+      ∙ part-split s (rowPlace i + namePlace + keyRoom s i) idLength m (rowPlace i + namePlace + keyRoom s i + idLength) refl
+
+  pub around-is : (n m : ℕ) → n ≡ length (rowEntry s i .key)
+      → part s (rowPlace i + namePlace + keyRoom s i - n) (n + idLength + m) ≡ (rowEntry s i .key ++ rowEntry s i .originator) ++ part s (rowPlace i + namePlace + keyRoom s i + idLength) m
+  around-is n m e =
+      around-by (eqb (octet s (tagPlace i)) (tagOf (rowName s i))) n m (e ∙ ap (λ (x : Entry). length (x .key)) entry-is)
+      ∙ ap (λ (x : Entry). (x .key ++ x .originator) ++ part s (rowPlace i + namePlace + keyRoom s i + idLength) m) (sym entry-is)
+
+  key-by : (b : Bool) → length (pick b key-part []) ≤ keyRoom s i
+  key-by true = let e = key-length in omega arith
+  key-by false = omega arith
+
+  pub key-room : (n : ℕ) → n ≡ length (rowEntry s i .key) → n ≤ keyRoom s i
+  key-room n e = let q = key-by (eqb (octet s (tagPlace i)) (tagOf (rowName s i))) in let z = e ∙ ap (λ (x : Entry). length (x .key)) entry-is in omega arith
+
+  -- ---- whether it holds an entry
+  pub held-by-name : (name : List ℕ) → 4 < length name → octet s (tagPlace i) ≡ tagOf name → isUsed (rowIn s i) ≡ true
+      → same (rowName s i) name ≡ holds (entryNamed name) (rowIn s i)
+  held-by-name name g t u =
+      let l : length (rowName s i) ≡ keyRoom s i + idLength = name-length in
+      sym (ap (holds (entryNamed name)) (used-row s i u) ∙ tagged-is (octet s (tagPlace i)) (rowName s i) name (omega arith) g
+      ∙ ap (λ b. b && same (rowName s i) name) (eq-eqb (octet s (tagPlace i)) (tagOf name) t))
+
+  pub other-tag : (name : List ℕ) → 4 < length name → (octet s (tagPlace i) ≡ tagOf name → ⊥) → holds (entryNamed name) (rowIn s i) ≡ false
+  other-tag name g n =
+      let l : length (rowName s i) ≡ keyRoom s i + idLength = name-length in
+      row-case s i (λ r. holds (entryNamed name) r ≡ false) refl
+      (tagged-is (octet s (tagPlace i)) (rowName s i) name (omega arith) g
+      ∙ ap (λ b. b && same (rowName s i) name) (ne-eqb (octet s (tagPlace i)) (tagOf name) n))

@@ -2,7 +2,7 @@
 -- Assumes nothing.
 use Prim.Native.Nat.{ℕ, zero, suc, _+_, _-_, _*_, _/_, _%_, _≤_, _<_}
 use mathlib.Core.Path.{_≡_, refl, sym, ap, _∙_}
-use mathlib.Core.Bool.{Bool, true, false, not, _&&_, false≢true}
+use mathlib.Core.Bool.{Bool, true, false, not, _&&_, and-false, false≢true}
 use mathlib.Core.List.{List, [], _∷_}
 use mathlib.Core.Logic.{_⊎_, inl, inr}
 use native.Mathlib.Nat.{not-suc-le-zero}
@@ -18,15 +18,15 @@ use mir.Val.{sel}
 use Rattle.laws.specs.Choice.{pick}
 use Rattle.laws.specs.Lists.{part, table}
 use Rattle.laws.proofs.Bools.{or-false}
-use Rattle.protocol.specs.Fields.{octet, field2, field4}
+use Rattle.protocol.specs.Fields.{octet, field2}
 use Rattle.protocol.specs.Numbers.{csaOf}
-use Rattle.rules.specs.Server.{slotsMost, rowsMost, Row, free, used, isUsed}
+use Rattle.rules.specs.Server.{slotsMost, rowsMost, Row, free, rowAt}
 use Rattle.rules.specs.Rows.{isPurged, anySlot, toFree, sweptRow}
-use Rattle.memory.specs.Layout.{numberPlace, rowPlace, markPlace, listPlace, keptPlace}
-use Rattle.memory.specs.Memory.{entryAt, valueAt, isMarked, rowIn, rowsIn, requestIn, requestsIn, keptIn, memoryOf, withRows, freshMemory}
-use Rattle.memory.specs.Search.{withRow, SweptTo, SweepsFour}
-use Rattle.memory.proofs.RowPlaces.{row-get, used-row, free-row, octet-free, as-changed}
-use Rattle.memory.proofs.RowLoops.{changed-more}
+use Rattle.memory.specs.Layout.{rowPlace, lengthPlace, markPlace, topPlace, listPlace, keptPlace}
+use Rattle.memory.specs.Memory.{valueAt, isMarked, bitsAt, rowIn, rowsIn, requestIn, requestsIn, keptIn, memoryOf, withRows, freshMemory}
+use Rattle.memory.specs.Search.{withRow, LastOrNone, FirstLast}
+use Rattle.memory.proofs.RowPlaces.{rows-length, row-get, octet-free, octet-used}
+use Rattle.memory.proofs.RowLoops.{front}
 
 -- ---- no mark is an octet 0
 module _ (b : ℕ) (low : b < 256) where
@@ -80,43 +80,6 @@ module _ (b : ℕ) (low : b < 256) where
   any-slot = any-by (anySlot (isMarked b)) refl
 
 -- ---- a row to free
-and-not : (a b c : Bool) → b ≡ not c → c ≡ true → a ≡ (a && not b)
-and-not true b c e t = rw (e, t)
-and-not false b c e t = refl
-
-and-yes : (a b c : Bool) → b ≡ not c → c ≡ false → false ≡ (a && not b)
-and-yes true b c e t = rw (e, t)
-and-yes false b c e t = refl
-
-module _ (s : List ℕ) (i : ℕ) where
-  pub stays-free : isUsed (rowIn s i) ≡ false → false ≡ toFree (rowIn s i)
-  stays-free u = ap toFree (sym (free-row s i u))
-
-  module _ (u : isUsed (rowIn s i) ≡ true) (b : ℕ) (low : b < 256) (is : b ≡ octet s (markPlace i)) where
-    any-mark : anySlot (isMarked (octet s (markPlace i))) ≡ not (eqb b 0)
-    any-mark = ap (λ z. anySlot (isMarked z)) (sym is) ∙ any-slot b low
-
-    -- told by number and marks
-    told : (isPurged (valueAt s (rowPlace i) .number) && not (anySlot (isMarked (octet s (markPlace i))))) ≡ toFree (rowIn s i)
-    told = ap toFree (sym (used-row s i u))
-
-    pub stays-waiting : (b ≡ 0 → ⊥) → false ≡ toFree (rowIn s i)
-    stays-waiting n =
-        and-yes (isPurged (valueAt s (rowPlace i) .number)) (anySlot (isMarked (octet s (markPlace i)))) (eqb b 0) any-mark (ne-eqb b 0 n) ∙ told
-
-    pub free-if-purged : {p : Bool} → b ≡ 0 → p ≡ isPurged (valueAt s (rowPlace i) .number) → p ≡ toFree (rowIn s i)
-    free-if-purged z p =
-        p
-        ∙ and-not (isPurged (valueAt s (rowPlace i) .number)) (anySlot (isMarked (octet s (markPlace i)))) (eqb b 0) any-mark (eq-eqb b 0 z)
-        ∙ told
-
-pub swept-free : (r : Row) {g : Bool} → g ≡ toFree r → g ≡ true → sweptRow r ≡ free
-swept-free r e t = ap (λ b. pick b free r) (sym e ∙ t)
-
-pub swept-same : (r : Row) {g : Bool} → g ≡ toFree r → g ≡ false → sweptRow r ≡ r
-swept-same r e t = ap (λ b. pick b free r) (sym e ∙ t)
-
--- ---- a row that stays, told by the first octet of its number
 -- 2147483647 is the bits 0x7FFFFFFF, no other
 bits-by : (n : ℕ) (b : Bool) → ltb n 2147483648 ≡ b → (n ≡ 2147483647 → ⊥) → leZ (pos 2147483647) (sel b (pos n) (negsuc (4294967296 - suc n))) ≡ false
 bits-by n true e h = lt-leb 2147483647 n (let l : n < 2147483648 = ltb-true n 2147483648 e in omega arith)
@@ -125,65 +88,95 @@ bits-by n false e h = refl
 unpurged : (n : ℕ) → (n ≡ 2147483647 → ⊥) → isPurged (csaOf n) ≡ false
 unpurged n h = bits-by n (ltb n 2147483648) refl h
 
-first-octet : (a b c d : ℕ) → b < 256 → c < 256 → d < 256 → (a ≡ 127 → ⊥) → ((a * 256 + b) * 256 + c) * 256 + d ≡ 2147483647 → ⊥
-first-octet a b c d hb hc hd n e = n (omega arith)
+top-octet : (a b c d : ℕ) → b < 256 → c < 256 → d < 256 → (a ≡ 127 → ⊥) → ((a * 256 + b) * 256 + c) * 256 + d ≡ 2147483647 → ⊥
+top-octet a b c d hb hc hd n e = n (omega arith)
 
 module _ (s : List ℕ) (i : ℕ) where
-  stays-by : (u : Bool) → isUsed (rowIn s i) ≡ u → isPurged (valueAt s (rowPlace i) .number) ≡ false → sweptRow (rowIn s i) ≡ rowIn s i
-  stays-by true u p =
-      let e = used-row s i u in
-      let m = isMarked (octet s (markPlace i)) in
-      ap sweptRow e ∙ ap (λ b. pick (b && not (anySlot m)) free (used (entryAt s (rowPlace i)) (valueAt s (rowPlace i)) m)) p ∙ sym e
-  stays-by false u p =
-      let e = free-row s i u in
-      ap sweptRow e ∙ sym e
+  pub kept-free : octet s (lengthPlace i) ≡ 0 → toFree (rowIn s i) ≡ false
+  kept-free z = ap toFree (octet-free s i z)
 
-  swept-stays : ((j : ℕ) → octet s j < 256) → (octet s (rowPlace i + numberPlace) ≡ 127 → ⊥) → sweptRow (rowIn s i) ≡ rowIn s i
-  swept-stays low n =
-      let at = rowPlace i + numberPlace in
-      stays-by (isUsed (rowIn s i)) refl
-      (unpurged (field4 s at) (first-octet (octet s at) (octet s (at + 1)) (octet s (at + 2)) (octet s (at + 3)) (low (at + 1)) (low (at + 2)) (low (at + 3)) n))
+  module _ (u : octet s (lengthPlace i) ≡ 0 → ⊥) where
+    told : toFree (rowIn s i) ≡ (isPurged (valueAt s i .number) && not (anySlot (isMarked (octet s (markPlace i)))))
+    told = ap toFree (octet-used s i u)
 
--- u is t with row i swept
-abbrev SweptAt : ℕ → List ℕ → List ℕ → Type 0
-SweptAt i t u = memoryOf u ≡ withRow t i (sweptRow (rowIn t i))
+    used-waiting : octet s (markPlace i) < 256 → (octet s (markPlace i) ≡ 0 → ⊥) → toFree (rowIn s i) ≡ false
+    used-waiting low n =
+        told ∙ ap (λ b. isPurged (valueAt s i .number) && not b) (any-slot (octet s (markPlace i)) low)
+        ∙ ap (λ b. isPurged (valueAt s i .number) && not (not b)) (ne-eqb (octet s (markPlace i)) 0 n) ∙ and-false (isPurged (valueAt s i .number))
 
--- a row that stays is put back as it is
-pub stays-put : (s : List ℕ) (i : ℕ) → i < rowsMost → sweptRow (rowIn s i) ≡ rowIn s i → SweptAt i s s
-unfolding memoryOf
-stays-put s i h e =
-    ap (λ z. withRows z (memoryOf s)) (sym (ap (set (rowsIn s) i) (e ∙ sym (row-get s i h)) ∙ set-getD (rowsIn s) i free))
+    pub purged-free : octet s (markPlace i) ≡ 0 → {p : Bool} → p ≡ isPurged (valueAt s i .number) → p ≡ toFree (rowIn s i)
+    purged-free z {p} e = e ∙ yes (isPurged (valueAt s i .number)) ∙ sym (told ∙ ap (λ m. isPurged (valueAt s i .number) && not (anySlot (isMarked m))) z) where
+      yes : (b : Bool) → b ≡ (b && not (anySlot (isMarked 0)))
+      yes true = refl
+      yes false = refl
 
--- ---- four rows
-swept-more : (i j : ℕ) (s t u : List ℕ) → i < rowsMost → j ≡ i + 1 → SweptAt i t u → SweptTo i s t → SweptTo j s u
-swept-more i j s t u h n g e = rw n (changed-more sweptRow s t i e u h (as-changed sweptRow t u i h g))
+  by-length : (x : ℕ) → octet s (lengthPlace i) ≡ x → ((octet s (lengthPlace i) ≡ 0 → ⊥) → toFree (rowIn s i) ≡ false) → toFree (rowIn s i) ≡ false
+  by-length zero e f = kept-free e
+  by-length (suc x) e f = f (λ z. omega (arith, e, z))
 
-pub swept-four : (i : ℕ) (t u v w x : List ℕ) → i + 4 ≤ rowsMost →
-    SweptAt i t u → SweptAt (i + 1) u v → SweptAt (i + 2) v w → SweptAt (i + 3) w x → SweepsFour i t x
-swept-four i t u v w x h a b c d s e =
-    let f = swept-more i (i + 1) s t u (omega arith) refl a e in
-    let g = swept-more (i + 1) (i + 2) s u v (omega arith) (omega arith) b f in
-    swept-more (i + 3) (i + 4) s w x (omega arith) (omega arith) d (swept-more (i + 2) (i + 3) s v w (omega arith) (omega arith) c g)
+  pub kept-waiting : octet s (markPlace i) < 256 → (octet s (markPlace i) ≡ 0 → ⊥) → toFree (rowIn s i) ≡ false
+  kept-waiting low n = by-length (octet s (lengthPlace i)) refl (λ u. used-waiting u low n)
 
--- none of the four numbers begins with 127
+  pub kept-number : ((j : ℕ) → octet s j < 256) → (octet s (topPlace i) ≡ 127 → ⊥) → toFree (rowIn s i) ≡ false
+  kept-number low n =
+      let at : ℕ = rowPlace i in
+      let p : isPurged (valueAt s i .number) ≡ false =
+      unpurged (bitsAt s i) (top-octet (octet s (topPlace i)) (octet s (at + 5)) (octet s (at + 6)) (octet s (at + 7)) (low (at + 5)) (low (at + 6)) (low (at + 7)) n) in
+      by-length (octet s (lengthPlace i)) refl (λ u. told u ∙ ap (λ b. b && not (anySlot (isMarked (octet s (markPlace i))))) p)
+
+-- ---- the first that may be one
+pub last-none : (size marks top i : ℕ) → (size ≡ 0) ⊎ ((marks ≡ 0 → ⊥) ⊎ (top ≡ 127 → ⊥)) → LastOrNone size marks top i 255
+last-none size marks top i w = record { may = λ h. absurd (omega arith); not = λ _. w }
+
+pub last-this : (size marks top i : ℕ) → LastOrNone size marks top i i
+last-this size marks top i = record { may = λ h. refl; not = λ n. absurd (n refl) }
+
+-- no row before r, of the first i, is to be freed
+abbrev pub LastTo : List ℕ → ℕ → ℕ → Type 0
+LastTo s i r = (i ≤ 64) × ((j : ℕ) → j < r → j < i → toFree (rowIn s j) ≡ false)
+
+pub last-start : (s : List ℕ) (r : ℕ) → LastTo s 0 r
+last-start s r = (omega arith, λ j a b. absurd (omega arith))
+
 module _ (s : List ℕ) (low : (j : ℕ) → octet s j < 256) where
-  stays-at : (i at : ℕ) → i < rowsMost → at ≡ rowPlace i + numberPlace → (octet s at ≡ 127 → ⊥) → SweptAt i s s
-  stays-at i at h p n = stays-put s i h (swept-stays s i low (λ e. n (ap (octet s) p ∙ e)))
+  not-this : (i : ℕ) → (octet s (lengthPlace i) ≡ 0) ⊎ ((octet s (markPlace i) ≡ 0 → ⊥) ⊎ (octet s (topPlace i) ≡ 127 → ⊥)) → toFree (rowIn s i) ≡ false
+  not-this i (inl z) = kept-free s i z
+  not-this i (inr (inl n)) = kept-waiting s i (low (markPlace i)) n
+  not-this i (inr (inr n)) = kept-number s i low n
 
-  pub four-stay : (i : ℕ) → i + 4 ≤ rowsMost →
-      let at : ℕ = rowPlace i + numberPlace in
-      (octet s at ≡ 127 → ⊥) → (octet s (at + 64) ≡ 127 → ⊥) → (octet s (at + 128) ≡ 127 → ⊥) → (octet s (at + 192) ≡ 127 → ⊥) → SweepsFour i s s
-  four-stay i h a b c d =
-      let at : ℕ = rowPlace i + numberPlace in
-      swept-four i s s s s s h (stays-at i at (omega arith) refl a)
-      (stays-at (i + 1) (at + 64) (omega arith) (omega arith) b)
-      (stays-at (i + 2) (at + 128) (omega arith) (omega arith) c)
-      (stays-at (i + 3) (at + 192) (omega arith) (omega arith) d)
+  pub last-more : (i r x r′ : ℕ) → i < 64 → LastTo s i r → LastOrNone (octet s (lengthPlace i)) (octet s (markPlace i)) (octet s (topPlace i)) i x
+      → ((r′ ≤ r) × (r′ ≤ x)) × ((r′ ≡ r) ⊎ (r′ ≡ x)) → LastTo s (i + 1) r′
+  last-more i r x r′ h f g c = (omega arith, λ j a b. by j a b (ℕ-discrete j i)) where
+    by : (j : ℕ) → j < r′ → j < i + 1 → Dec (j ≡ i) → toFree (rowIn s j) ≡ false
+    by j a b (yes e) = ap (λ n. toFree (rowIn s n)) e ∙ not-this i (g .not (λ z. omega (arith, c .0 .1, a, e, z)))
+    by j a b (no e) = f .1 j (omega (arith, c .0 .0)) (omega (arith, e))
 
--- a returned `||` that is false, where its two ways have joined
-pub or-left : {T F : Type 0} {v a b : Bool} → (T × (v ≡ a)) ⊎ (F × (v ≡ b)) → (T → a ≡ true) → v ≡ false → F × (b ≡ false)
-or-left (inl w) t e = absurd (false≢true (sym e ∙ w .1 ∙ t (w .0)))
-or-left (inr w) t e = (w .0, sym (w .1) ∙ e)
+  pub last-all : (i r : ℕ) → 64 ≤ i → LastTo s i r → FirstLast s r
+  last-all i r h f = λ j a b. f .1 j a (omega arith)
+
+-- ---- the rows before it stay
+front-same : (l : List Row) (i : ℕ) → ((j : ℕ) → j < i → j < length l → toFree (rowAt l j) ≡ false) → front sweptRow free l i ≡ l
+front-same [] zero h = refl
+front-same [] (suc i) h = refl
+front-same (r ∷ l) zero h = refl
+front-same (r ∷ l) (suc i) h =
+    λ z. pick (h 0 (omega arith) (omega arith) z) free r ∷ front-same l i (λ j a b. h (suc j) (omega arith) (omega arith)) z
+
+pub swept-first : (s : List ℕ) (r : ℕ) → FirstLast s r → memoryOf s ≡ withRows (front sweptRow free (rowsIn s) r) (memoryOf s)
+unfolding memoryOf
+swept-first s r f =
+    let n : length (rowsIn s) ≡ rowsMost = rows-length s in
+    ap (λ (rows : List Row). withRows rows (memoryOf s))
+    (sym (front-same (rowsIn s) r (λ j a b. ap toFree (row-get s j (omega arith)) ∙ f j a (omega arith))))
+
+-- ---- row i swept
+pub swept-now : (s t : List ℕ) (i : ℕ) {b : Bool} → b ≡ toFree (rowIn s i) → b ≡ true → memoryOf t ≡ withRow s i free → memoryOf t ≡ withRow s i (sweptRow (rowIn s i))
+swept-now s t i e h m = m ∙ ap (λ (x : Bool). withRow s i (pick x free (rowIn s i))) (sym (sym e ∙ h))
+
+pub swept-not : (s : List ℕ) (i : ℕ) {b : Bool} → i < rowsMost → b ≡ toFree (rowIn s i) → b ≡ false → memoryOf s ≡ withRow s i (sweptRow (rowIn s i))
+unfolding memoryOf
+swept-not s i h e f =
+    ap (λ (rows : List Row). withRows rows (memoryOf s)) (sym (ap (set (rowsIn s) i) (ap (λ (x : Bool). pick x free (rowIn s i)) (sym e ∙ f) ∙ sym (row-get s i h)) ∙ set-getD (rowsIn s) i free))
 
 -- ---- zeros
 table-all : {A : Type 0} (f : ℕ → A) (x : A) → ((j : ℕ) → f j ≡ x) → (n i : ℕ) → table f n i ≡ replicate n x
@@ -195,7 +188,7 @@ module _ (s : List ℕ) (zeros : (j : ℕ) → octet s j ≡ 0) where
   zero-field at = let a = zeros at in let b = zeros (at + 1) in omega arith
 
   no-row : (i : ℕ) → rowIn s i ≡ free
-  no-row i = octet-free s i (zeros (rowPlace i))
+  no-row i = octet-free s i (zeros (lengthPlace i))
 
   no-requests : (k : ℕ) → requestsIn s k ≡ []
   unfolding requestsIn

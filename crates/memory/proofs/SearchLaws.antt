@@ -37,6 +37,19 @@ module _ (p : Row → Bool) (rows : List Row) (i : ℕ) where
   pub count-none : length rows ≤ i → count p (drop i rows) ≡ 0
   count-none h = rw (drop-of-length-le rows h)
 
+-- rows that do not pass are passed by at once
+module _ (p : Row → Bool) where
+  pass-by : (rows : List Row) (k c : ℕ) → ((j : ℕ) → j < c → j < length rows → p (rowAt rows j) ≡ false) → firstFrom p k rows ≡ firstFrom p (k + c) (drop c rows)
+  unfolding firstFrom
+  pass-by rows k zero h = let e : k ≡ k + 0 = omega arith in ap (λ n. firstFrom p n rows) e
+  pass-by [] k (suc c) h = refl
+  pass-by (r ∷ rows) k (suc c) h =
+      let e : suc k + c ≡ k + suc c = omega arith in
+      rw (h 0 (omega arith) (omega arith)) (pass-by rows (suc k) c (λ j g l. h (suc j) (omega arith) (omega arith)) ∙ ap (λ n. firstFrom p n (drop c rows)) e)
+
+  pub passed-by : (rows : List Row) (c : ℕ) → ((j : ℕ) → j < c → j < length rows → p (rowAt rows j) ≡ false) → firstFrom p 0 rows ≡ firstFrom p c (drop c rows)
+  passed-by rows c h = let e : 0 + c ≡ c = omega arith in pass-by rows 0 c h ∙ ap (λ n. firstFrom p n (drop c rows)) e
+
 -- a row that is found: it passes, it is one of the rows, and none before it passes
 pub record First (p : Row → Bool) (rows : List Row) (i : ℕ) : Type 0 where
   pub passes : p (rowAt rows i) ≡ true
@@ -124,12 +137,3 @@ module _ (p : Row → Bool) where
   find-first (r ∷ rows) (suc i) f =
       let b = f .below in
       rw (f .lowest 0 (omega arith)) (find-first rows i (record { passes = f .passes; below = omega arith; lowest = λ j h. f .lowest (suc j) (omega arith) }))
-
-  find-none-by : (r : Row) (rows : List Row) → (has p rows ≡ false → find p free rows ≡ free) → (b : Bool) → (b || has p rows) ≡ false
-      → pick b r (find p free rows) ≡ free
-  find-none-by r rows ih true h = absurd (false≢true (sym h))
-  find-none-by r rows ih false h = ih h
-
-  pub find-none : (rows : List Row) → has p rows ≡ false → find p free rows ≡ free
-  find-none [] h = refl
-  find-none (r ∷ rows) h = find-none-by r rows (find-none rows) (p r) h

@@ -1,10 +1,31 @@
--- The lent memory: what stands where. A row and a request begin alike: key length, an octet, two octets, number (4), originator, key.
+-- The lent memory: what stands where. A row has a body of 64 octets, and an octet in each of four sections, so that what is scanned lies together.
 -- Assumes nothing.
 use Prim.Native.Nat.{ℕ, _+_, _*_}
 use Rattle.protocol.specs.Sizes.{idLength, keyMost, payloadMost, packetMost}
 use Rattle.rules.specs.Server.{slotsMost, rowsMost, requestsMost}
 
--- where the number, the originator, the key and the payload of a row stand; a request has no payload
+-- ---- bodies: payload length (1), not used (1), remaining hops (2), not used (1), the number's three lower octets, then key, originator and
+-- payload, one behind the other
+abbrev pub namePlace : ℕ
+namePlace = 8
+
+abbrev pub rowSize : ℕ
+rowSize = namePlace + keyMost + idLength + payloadMost + 4
+
+-- ---- sections, an octet for each row: key length, marks, the number's highest octet, tag
+abbrev pub lengthsAt : ℕ
+lengthsAt = rowsMost * rowSize
+
+abbrev pub marksAt : ℕ
+marksAt = lengthsAt + rowsMost
+
+abbrev pub topsAt : ℕ
+topsAt = marksAt + rowsMost
+
+abbrev pub tagsAt : ℕ
+tagsAt = topsAt + rowsMost
+
+-- ---- the request lists: of each slot the number of requests (2), then the rooms: key length (1), not used (3), number (4), originator, key
 abbrev pub numberPlace : ℕ
 numberPlace = 4
 
@@ -14,28 +35,16 @@ originatorPlace = 8
 abbrev pub keyPlace : ℕ
 keyPlace = originatorPlace + idLength
 
-abbrev pub payloadPlace : ℕ
-payloadPlace = keyPlace + keyMost
-
--- a row, as change L9 lays out its records: four zero octets behind the payload
-abbrev pub rowSize : ℕ
-rowSize = payloadPlace + payloadMost + 4
-
--- an octet of marks for each row
-abbrev pub marksAt : ℕ
-marksAt = rowsMost * rowSize
-
--- the request lists: of each slot the number of requests (2), then room for the most
 abbrev pub requestsAt : ℕ
-requestsAt = marksAt + rowsMost
+requestsAt = tagsAt + rowsMost
 
 abbrev pub requestSize : ℕ
-requestSize = payloadPlace
+requestSize = keyPlace + keyMost
 
 abbrev pub listSize : ℕ
 listSize = 2 + requestsMost * requestSize
 
--- the kept CAs: of each slot the length (2), then room for a packet
+-- ---- the kept CAs: of each slot the length (2), then room for a packet
 abbrev pub keptAt : ℕ
 keptAt = requestsAt + slotsMost * listSize
 
@@ -45,11 +54,21 @@ keptSize = 2 + packetMost idLength
 abbrev pub memorySize : ℕ
 memorySize = keptAt + slotsMost * keptSize
 
+-- ---- places
 abbrev pub rowPlace : ℕ → ℕ
 rowPlace i = i * rowSize
 
+abbrev pub lengthPlace : ℕ → ℕ
+lengthPlace i = lengthsAt + i
+
 abbrev pub markPlace : ℕ → ℕ
 markPlace i = marksAt + i
+
+abbrev pub topPlace : ℕ → ℕ
+topPlace i = topsAt + i
+
+abbrev pub tagPlace : ℕ → ℕ
+tagPlace i = tagsAt + i
 
 abbrev pub listPlace : ℕ → ℕ
 listPlace k = requestsAt + k * listSize

@@ -1,20 +1,18 @@
--- What the functions on marks leave, and what the next rows are given as.
+-- What the functions on marks answer and leave, and what the next rows are given as.
 -- Assumes nothing.
 use Prim.Native.Nat.{ℕ, _≤_, _%_}
 use mathlib.Core.Path.{_≡_}
 use mathlib.Core.Bool.{Bool, true}
 use mathlib.Core.List.{List}
+use lib.Dec.{eqb}
 use lib.ListN.{length, take}
 use lib.ListN as lists
-use lib.Dec.{eqb}
 use Rattle.laws.specs.Tables.{on, has}
-use Rattle.rules.specs.Server.{rowsMost, Row, free, used, rowAt}
+use Rattle.rules.specs.Server.{rowsMost, Row, free, used, waitsFor, rowAt}
 use Rattle.rules.specs.Rows.{behind}
-use Rattle.memory.specs.Layout.{markPlace}
-use Rattle.memory.specs.Memory.{isMarked, rowsIn, Memory, memoryOf, withRows}
 use Rattle.memory.specs.declared.next.Picks.{Picks}
+use Rattle.memory.specs.Memory.{isMarked, rowsIn, Memory, memoryOf, withRows}
 
--- ---- marks
 -- the row with other marks; a free row has none
 abbrev pub withMarks : (ℕ → Bool) → Row → Row
 withMarks m free = free
@@ -29,10 +27,9 @@ marked k (used e v m) = used e v (on k true m)
 abbrev pub changedAt : (Row → Row) → ℕ → List ℕ → Memory
 changedAt f i s = withRows (lists.set (rowsIn s) i (f (rowAt (rowsIn s) i))) (memoryOf s)
 
--- row i has the marks of an octet
-pub record PutMarks (i marks : ℕ) (before after : List ℕ) : Type 0 where
-  pub rows : memoryOf after ≡ changedAt (withMarks (isMarked marks)) i before
-  pub octets : after ≡ lists.set before (markPlace i) marks
+-- the octet has the mark of each slot that some row waits for, and of no other
+abbrev pub AnyMarks : List Row → ℕ → Type 0
+AnyMarks rows r = (k : ℕ) → isMarked r k ≡ has (waitsFor k) rows
 
 -- ---- the next rows
 -- the rows that are meant

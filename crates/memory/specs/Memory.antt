@@ -1,10 +1,10 @@
 -- What the octets of the lent memory mean: the rows, request lists and kept CAs of the rules.
 -- Assumes nothing.
-use Prim.Native.Nat.{ℕ, _+_, _/_, _%_, _^_}
+use Prim.Native.Nat.{ℕ, _+_, _-_, _*_, _/_, _%_, _^_, min}
 use mathlib.Core.Bool.{Bool}
 use mathlib.Core.List.{List, []}
-use lib.Dec.{eqb}
-use lib.ListN.{take}
+use lib.Dec.{eqb, ltb}
+use lib.ListN.{length, take, drop}
 use lib.ListN as lists
 use Rattle.laws.specs.Choice.{pick}
 use Rattle.laws.specs.Lists.{part, table}
@@ -12,37 +12,92 @@ use Rattle.protocol.specs.Sizes.{idLength, keyMost, payloadMost, packetMost}
 use Rattle.protocol.specs.Fields.{octet, field2, field4}
 use Rattle.protocol.specs.Numbers.{csaOf}
 use Rattle.rules.specs.Server.{slotsMost, rowsMost, requestsMost, Entry, Value, Row, free, used, Request}
-use Rattle.memory.specs.Layout.{numberPlace, originatorPlace, keyPlace, payloadPlace, rowPlace, markPlace, listPlace, requestPlace, keptPlace}
+use Rattle.memory.specs.Layout.{numberPlace, originatorPlace, keyPlace, namePlace, rowPlace, lengthPlace, markPlace, topPlace, tagPlace, listPlace, requestPlace, keptPlace}
 
--- the entry of the row or request at a place; a key length over the room counts as the room
-abbrev pub entryAt : List ℕ → ℕ → Entry
-entryAt s at = record {
-  key = take (octet s at) (part s (at + keyPlace) keyMost);
-  originator = part s (at + originatorPlace) idLength;
-}
+-- ---- names: key and originator of an entry, one behind the other, as in a packet
+abbrev pub entryNamed : List ℕ → Entry
+entryNamed name = record { key = take (length name - idLength) name; originator = drop (length name - idLength) name }
+
+-- ---- tags: an octet made of a name, to look for before the name itself
+-- words of four and of eight octets, the first octet the lowest
+abbrev pub word4 : List ℕ → ℕ → ℕ
+word4 p at = ((octet p (at + 3) * 256 + octet p (at + 2)) * 256 + octet p (at + 1)) * 256 + octet p at
+
+abbrev pub word8 : List ℕ → ℕ → ℕ
+word8 p at = word4 p (at + 4) * 4294967296 + word4 p at
+
+abbrev pub plus64 : ℕ → ℕ → ℕ
+plus64 a b = (a + b) % 2 ^ 64
+
+-- every octet of a name of up to 24 octets counts
+abbrev pub longSum : List ℕ → ℕ → ℕ
+longSum name n =
+    let ends = plus64 (word8 name 0) (word8 name (n - 8)) in
+    pick (ltb 16 n) (plus64 ends (word8 name 8)) ends
+
+abbrev pub nameSum : List ℕ → ℕ → ℕ
+nameSum name n = pick (ltb n 4) 0 (pick (ltb n 8) (word4 name 0 + word4 name (n - 4)) (longSum name n))
+
+unfoldable pub tagOf : List ℕ → ℕ
+tagOf name = nameSum name (length name) % 239
+
+-- The entry of a row. One whose tag is not that of its name has no key, as no packet has it: so a search may pass it by.
+abbrev pub withoutKey : Entry → Entry
+withoutKey e = record { key = []; originator = e .originator }
+
+abbrev pub taggedEntry : ℕ → List ℕ → Entry
+taggedEntry tag name = pick (eqb tag (tagOf name)) (entryNamed name) (withoutKey (entryNamed name))
 
 -- ---- rows
 -- slot k's mark in an octet of marks
 abbrev pub isMarked : ℕ → ℕ → Bool
 isMarked marks k = eqb (marks / 2 ^ k % 2) 1
 
+-- a key length over the room counts as the room
+abbrev pub keyRoom : List ℕ → ℕ → ℕ
+keyRoom s i = min (octet s (lengthPlace i)) keyMost
+
+abbrev pub rowName : List ℕ → ℕ → List ℕ
+rowName s i = part s (rowPlace i + namePlace) (keyRoom s i + idLength)
+
+abbrev pub rowEntry : List ℕ → ℕ → Entry
+rowEntry s i = taggedEntry (octet s (tagPlace i)) (rowName s i)
+
+-- the 32 bits of the number
+abbrev pub bitsAt : List ℕ → ℕ → ℕ
+bitsAt s i =
+    ((octet s (topPlace i) * 256 + octet s (rowPlace i + 5)) * 256 + octet s (rowPlace i + 6)) * 256 + octet s (rowPlace i + 7)
+
+abbrev pub payloadLength : List ℕ → ℕ → ℕ
+payloadLength s i = min (octet s (rowPlace i)) payloadMost
+
+abbrev pub payloadPlace : List ℕ → ℕ → ℕ
+payloadPlace s i = rowPlace i + namePlace + keyRoom s i + idLength
+
 abbrev pub valueAt : List ℕ → ℕ → Value
-valueAt s at = record {
-  number = csaOf (field4 s (at + numberPlace));
-  payload = take (octet s (at + 1)) (part s (at + payloadPlace) payloadMost);
-  remaining = field2 s (at + 2);
+valueAt s i = record {
+  number = csaOf (bitsAt s i);
+  payload = part s (payloadPlace s i) (payloadLength s i);
+  remaining = field2 s (rowPlace i + 2);
 }
 
 -- key length 0 is a free row
 unfoldable pub rowIn : List ℕ → ℕ → Row
 rowIn s i =
-    pick (eqb (octet s (rowPlace i)) 0) free
-    (used (entryAt s (rowPlace i)) (valueAt s (rowPlace i)) (isMarked (octet s (markPlace i))))
+    pick (eqb (octet s (lengthPlace i)) 0) free
+    (used (rowEntry s i) (valueAt s i) (isMarked (octet s (markPlace i))))
 
 unfoldable pub rowsIn : List ℕ → List Row
 rowsIn s = table (rowIn s) rowsMost 0
 
 -- ---- request lists
+-- the entry at a place
+abbrev pub entryAt : List ℕ → ℕ → Entry
+entryAt s at = record {
+  key = take (octet s at) (part s (at + keyPlace) keyMost);
+  originator = part s (at + originatorPlace) idLength;
+}
+
 unfoldable pub requestIn : List ℕ → ℕ → ℕ → Request
 requestIn s k i = record {
   entry = entryAt s (requestPlace k i);

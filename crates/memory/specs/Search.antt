@@ -1,33 +1,53 @@
 -- What the functions on rows answer, and what they leave in the memory.
 -- Assumes nothing.
-use Prim.Native.Nat.{ℕ, suc, _+_, _-_, _≤_}
+use Prim.Native.Nat.{ℕ, suc, _+_, _/_, _%_, _≤_, _<_}
 use mathlib.Core.Path.{_≡_}
 use mathlib.Core.Bool.{Bool, false}
-use mathlib.Core.List.{List, [], _∷_, _++_, map}
-use lib.ListN.{length, take, drop, replicate}
+use mathlib.Core.Logic.{_⊎_}
+use mathlib.Core.List.{List, [], _∷_}
+use lib.ListN.{length}
 use lib.ListN as lists
 use Rattle.laws.specs.Choice.{pick}
-use Rattle.laws.specs.Lists.{part}
+use Rattle.laws.specs.Puts.{putAt}
 use Rattle.laws.specs.Tables.{has}
 use Rattle.protocol.specs.Sizes.{idLength, keyMost, payloadMost}
-use Rattle.protocol.specs.Fields.{put2, put4}
-use Rattle.protocol.specs.Numbers.{bitsOf}
-use Rattle.rules.specs.Server.{Entry, Value, Row, free, used, isFree}
-use Rattle.rules.specs.Rows.{filled, sweptRow}
+use Rattle.protocol.specs.Fields.{octet}
+use Rattle.rules.specs.Server.{rowsMost, Entry, Value, Row, free, used, isFree}
+use Rattle.rules.specs.Rows.{filled, toFree}
+use Rattle.memory.specs.Layout.{rowPlace, lengthPlace, markPlace, topPlace, tagPlace}
+use Rattle.memory.specs.Memory.{rowIn, rowsIn, Memory, memoryOf, withRows}
 use Rattle.memory.specs.declared.rows.Found.{Found}
 use Rattle.memory.specs.declared.rows.Found.the-variants.{At, Nothing}
 use Rattle.memory.specs.declared.store.Inserted.{Inserted}
 use Rattle.memory.specs.declared.store.Inserted.the-variants.{Stored, Full}
-use Rattle.memory.specs.Layout.{originatorPlace, rowSize, rowPlace}
-use Rattle.memory.specs.Memory.{rowsIn, Memory, memoryOf, withRows}
 
 abbrev pub entry : List ℕ → List ℕ → Entry
 entry key originator = record { key = key; originator = originator }
+
+-- key and originator of an entry that a row has room for, and with a payload
+abbrev pub FitsKey : List ℕ → List ℕ → Type 0
+FitsKey key originator = ((1 ≤ length key) × (length key ≤ keyMost)) × (length originator ≡ idLength)
+
+pub record FitsRow (key originator payload : List ℕ) : Type 0 where
+  pub some-key : 1 ≤ length key
+  pub key-fits : length key ≤ keyMost
+  pub originator-fits : length originator ≡ idLength
+  pub payload-fits : length payload ≤ payloadMost
+
+-- of 64 octets from `at` on the first that is t: its place, or a number past them
+pub record FirstOctet (s : List ℕ) (at t r : ℕ) : Type 0 where
+  pub there : r < 64 → octet s (at + r) ≡ t
+  pub none-before : (j : ℕ) → j < 64 → octet s (at + j) ≡ t → r ≤ j
 
 -- the first row that passes the test, where the rows are counted from i on
 unfoldable pub firstFrom : (Row → Bool) → ℕ → List Row → Found
 firstFrom p i [] = Nothing
 firstFrom p i (r ∷ rows) = pick (p r) (At i) (firstFrom p (suc i) rows)
+
+-- a row that was found is one of the rows
+abbrev pub FoundBelow : Found → Type 0
+FoundBelow (At i) = i < rowsMost
+FoundBelow Nothing = Unit {0}
 
 -- ---- rows put
 -- the memory with another row i
@@ -39,36 +59,17 @@ abbrev pub revalued : Value → (ℕ → Bool) → Row → Row
 revalued v m free = free
 revalued v m (used e w n) = used e v m
 
--- zeros behind the octets, up to n
-abbrev pub padded : ℕ → List ℕ → List ℕ
-padded n p = p ++ replicate (n - length p) 0
+-- the first octets of a row's body: payload length, remaining hops, the number without its highest octet
+abbrev pub rowHead : ℕ → ℕ → ℕ → List ℕ
+rowHead payload bits remaining =
+    payload ∷ 0 ∷ remaining / 256 ∷ remaining % 256 ∷ 0 ∷ bits / 65536 % 256 ∷ bits / 256 % 256 ∷ bits % 256 ∷ []
 
--- payload length, remaining hops and number
-abbrev pub valueHead : Value → List ℕ
-valueHead v = length (v .payload) ∷ put2 (v .remaining) (put4 (bitsOf (v .number)) [])
+abbrev pub headPut : ℕ → ℕ → ℕ → ℕ → ℕ → List ℕ → List ℕ
+headPut i payload bits remaining marks s =
+    lists.set (lists.set (putAt s (rowPlace i) (rowHead payload bits remaining)) (topPlace i) (bits / 16777216)) (markPlace i) marks
 
-abbrev pub rowHead : Entry → Value → List ℕ
-rowHead e v = (length (e .key) ∷ []) ++ (valueHead v ++ e .originator)
-
--- the octets of a row: what is not used is zero
-abbrev pub rowOctets : Entry → Value → List ℕ
-rowOctets e v = rowHead e v ++ (padded keyMost (e .key) ++ padded 36 (v .payload))
-
--- and with another value: key length, originator and key stay
-abbrev pub revaluedOctets : Value → List ℕ → List ℕ
-revaluedOctets v row = take 1 row ++ (valueHead v ++ (part row originatorPlace (idLength + keyMost) ++ padded 36 (v .payload)))
-
--- what a row has room for
-pub record FitsRow (key originator payload : List ℕ) : Type 0 where
-  pub some-key : 1 ≤ length key
-  pub key-fits : length key ≤ keyMost
-  pub originator-fits : length originator ≡ idLength
-  pub payload-fits : length payload ≤ payloadMost
-
--- a used row is put at i
-pub record PutRow (i : ℕ) (e : Entry) (v : Value) (m : ℕ → Bool) (before after : List ℕ) : Type 0 where
-  pub rows : memoryOf after ≡ withRow before i (used e v m)
-  pub octets : part after (rowPlace i) rowSize ≡ rowOctets e v
+abbrev pub sectionsPut : ℕ → ℕ → ℕ → List ℕ → List ℕ
+sectionsPut i key tag s = lists.set (lists.set s (lengthPlace i) key) (tagPlace i) tag
 
 -- the lowest free row is filled; without one, no octet changes
 pub record Inserts (r : Row) (before after : List ℕ) (a : Inserted) : Type 0 where
@@ -76,10 +77,12 @@ pub record Inserts (r : Row) (before after : List ℕ) (a : Inserted) : Type 0 w
   pub answer : a ≡ pick (has isFree (rowsIn before)) Stored Full
   pub kept : has isFree (rowsIn before) ≡ false → after ≡ before
 
--- after is before with its first i rows swept
-abbrev pub SweptTo : ℕ → List ℕ → List ℕ → Type 0
-SweptTo i before after = memoryOf after ≡ withRows (map sweptRow (take i (rowsIn before)) ++ drop i (rowsIn before)) (memoryOf before)
+-- ---- rows to free
+-- r is i where length, marks and highest octet may be those of a row to free, and past all rows where they are not
+pub record LastOrNone (size marks top i r : ℕ) : Type 0 where
+  pub may : r < 64 → r ≡ i
+  pub not : (r ≡ i → ⊥) → (size ≡ 0) ⊎ ((marks ≡ 0 → ⊥) ⊎ (top ≡ 127 → ⊥))
 
--- from s to t the sweep goes on by four rows
-abbrev pub SweepsFour : ℕ → List ℕ → List ℕ → Type 0
-SweepsFour i s t = (before : List ℕ) → SweptTo i before s → SweptTo (i + 4) before t
+-- no row before r is to be freed
+abbrev pub FirstLast : List ℕ → ℕ → Type 0
+FirstLast s r = (j : ℕ) → j < r → j < rowsMost → toFree (rowIn s j) ≡ false

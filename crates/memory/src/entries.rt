@@ -6,13 +6,13 @@ ghost use lib.ListN.{length};
 ghost use Rattle.laws.specs.Tables as tables;
 ghost use Rattle.protocol.specs.Sizes.{payloadMost};
 ghost use Rattle.protocol.specs.Numbers as definition;
-ghost use Rattle.rules.specs.Server.{slotsMost, rowsMost, holds};
+ghost use Rattle.rules.specs.Server.{slotsMost, rowsMost, Entry, holds};
 ghost use Rattle.rules.specs.Rows.{entryRow, unmarked};
 ghost use Rattle.rules.specs.Requests.{upToDate};
 ghost use Rattle.rules.specs.Updates.{value, stepped, changedRow, purgedRow, setRows, withdrawRows, purgeRows, stored, waitsAgain, rowsBy, replied};
 ghost use Rattle.memory.specs.Layout.{memorySize};
 ghost use Rattle.memory.specs.Memory.{isMarked, rowIn, rowsIn, memoryOf};
-ghost use Rattle.memory.specs.Search.{entry, withRow, FitsRow};
+ghost use Rattle.memory.specs.Search.{entry, withRow, FitsKey, FitsRow, FoundBelow, firstFrom};
 ghost use Rattle.memory.specs.Entries.{received, rowsAs, putRows};
 use crate::marks;
 use crate::rows;
@@ -31,8 +31,10 @@ fn one_less(hops: u16) -> u16
     hops - 1
 }
 
+// In the row that was found for the entry, or in the lowest free one.
 fn put_entry(
     memory: &mut [u8],
+    found: Found,
     key: &[u8],
     originator: &[u8],
     number: CsaNumber,
@@ -40,10 +42,10 @@ fn put_entry(
     remaining: u16,
     marks: u8,
 )
-    requires { ⌜ (length (now memory) ≡ memorySize) × FitsRow (now key) (now originator) (now payload) ⌝ }
+    requires { ⌜ ((length (now memory) ≡ memorySize) × FitsRow (now key) (now originator) (now payload)) × (found ≡ firstFrom (holds (entry (now key) (now originator))) 0 (rowsIn (now memory))) ⌝ }
     ensures { λ _. ⌜ memoryOf (now (memory .exit)) ≡ rowsAs (putRows (entry (now (key .entry)) (now (originator .entry))) (value number (now (payload .entry)) remaining) (isMarked marks)) (now (memory .entry)) ⌝ }
 {
-    match rows::find(memory, key, originator) {
+    match found {
         Found::At(i) => store::put_value(memory, i, number, payload, remaining, marks),
         Found::Nothing => {
             store::insert(memory, key, originator, number, payload, remaining, marks);
@@ -54,6 +56,7 @@ fn put_entry(
 // A record is stored: one hop less, and it waits for the other live slots. Without a free row nothing is.
 pub fn store_record(
     memory: &mut [u8],
+    found: Found,
     live: u8,
     k: usize,
     key: &[u8],
@@ -62,46 +65,53 @@ pub fn store_record(
     payload: &[u8],
     hops: u16,
 )
-    requires { ⌜ (length (now memory) ≡ memorySize) × ((k < slotsMost) × FitsRow (now key) (now originator) (now payload)) ⌝ }
+    requires { ⌜ ((length (now memory) ≡ memorySize) × ((k < slotsMost) × FitsRow (now key) (now originator) (now payload))) × (found ≡ firstFrom (holds (entry (now key) (now originator))) 0 (rowsIn (now memory))) ⌝ }
     ensures { λ _. ⌜ memoryOf (now (memory .exit)) ≡ rowsAs (rowsBy stored (isMarked live) k (received hops number (entry (now (key .entry)) (now (originator .entry))) (now (payload .entry)))) (now (memory .entry)) ⌝ }
 {
     let remaining = one_less(hops);
     let marks = marks::spread_of(live, k, remaining);
-    put_entry(memory, key, originator, number, payload, remaining, marks);
+    put_entry(
+        memory,
+        found,
+        key,
+        originator,
+        number,
+        payload,
+        remaining,
+        marks,
+    );
 }
 
-// A record equal to what is held: the row waits for slot k no more.
-pub fn equal_record(memory: &mut [u8], k: usize, key: &[u8], originator: &[u8])
-    requires { ⌜ (length (now memory) ≡ memorySize) × (k < slotsMost) ⌝ }
-    ensures { λ _. ⌜ memoryOf (now (memory .exit)) ≡ rowsAs (tables.change (holds (entry (now (key .entry)) (now (originator .entry)))) (unmarked k)) (now (memory .entry)) ⌝ }
-    ensures kept { λ _. ⌜ (tables.has (holds (entry (now (key .entry)) (now (originator .entry)))) (rowsIn (now (memory .entry))) ≡ false → now (memory .exit) ≡ now (memory .entry)) ⌝ }
+// A record equal to what is held: the row that was found waits for slot k no more.
+pub fn equal_record(memory: &mut [u8], k: usize, found: Found)
+    requires { ⌜ ((length (now memory) ≡ memorySize) × (k < slotsMost)) × FoundBelow found ⌝ }
+    ensures { λ _. ⌜ ((e : Entry) → found ≡ firstFrom (holds e) 0 (rowsIn (now (memory .entry))) → memoryOf (now (memory .exit)) ≡ rowsAs (tables.change (holds e) (unmarked k)) (now (memory .entry))) ⌝ }
 {
-    match rows::find(memory, key, originator) {
+    match found {
         Found::At(i) => marks::clear_mark(memory, i, k),
         Found::Nothing => {}
     }
 }
 
-// A record older than what is held: slot k is waitsAgain the row.
-pub fn older_record(memory: &mut [u8], k: usize, key: &[u8], originator: &[u8])
-    requires { ⌜ (length (now memory) ≡ memorySize) × (k < slotsMost) ⌝ }
-    ensures { λ _. ⌜ memoryOf (now (memory .exit)) ≡ rowsAs (tables.change (holds (entry (now (key .entry)) (now (originator .entry)))) (waitsAgain k)) (now (memory .entry)) ⌝ }
-    ensures kept { λ _. ⌜ (tables.has (holds (entry (now (key .entry)) (now (originator .entry)))) (rowsIn (now (memory .entry))) ≡ false → now (memory .exit) ≡ now (memory .entry)) ⌝ }
+// A record older than what is held: the row that was found waits for slot k again.
+pub fn older_record(memory: &mut [u8], k: usize, found: Found)
+    requires { ⌜ ((length (now memory) ≡ memorySize) × (k < slotsMost)) × FoundBelow found ⌝ }
+    ensures { λ _. ⌜ ((e : Entry) → found ≡ firstFrom (holds e) 0 (rowsIn (now (memory .entry))) → memoryOf (now (memory .exit)) ≡ rowsAs (tables.change (holds e) (waitsAgain k)) (now (memory .entry))) ⌝ }
 {
-    match rows::find(memory, key, originator) {
-        Found::At(i) => marks::owe(memory, i, k),
+    match found {
+        Found::At(i) => marks::mark_again(memory, i, k),
         Found::Nothing => {}
     }
 }
 
 // ---- a record of a CSU Reply from slot k
 pub fn reply_record(memory: &mut [u8], k: usize, key: &[u8], originator: &[u8], number: CsaNumber)
-    requires { ⌜ (length (now memory) ≡ memorySize) × (k < slotsMost) ⌝ }
+    requires { ⌜ ((length (now memory) ≡ memorySize) × (k < slotsMost)) × FitsKey (now key) (now originator) ⌝ }
     ensures { λ _. ⌜ memoryOf (now (memory .exit)) ≡ rowsAs (tables.change (holds (entry (now (key .entry)) (now (originator .entry)))) (replied k number)) (now (memory .entry)) ⌝ }
     ensures kept { λ _. ⌜ (tables.has (holds (entry (now (key .entry)) (now (originator .entry)))) (rowsIn (now (memory .entry))) ≡ false → now (memory .exit) ≡ now (memory .entry)) ⌝ }
 {
     match rows::find(memory, key, originator) {
-        Found::At(i) => marks::settle(memory, i, k, number),
+        Found::At(i) => marks::reply_mark(memory, i, k, number),
         Found::Nothing => {}
     }
 }
@@ -156,7 +166,7 @@ pub fn set_entry(memory: &mut [u8], live: u8, key: &[u8], originator: &[u8], pay
 
 // The payload becomes empty; the row is kept.
 pub fn withdraw_entry(memory: &mut [u8], live: u8, key: &[u8], originator: &[u8])
-    requires { ⌜ length (now memory) ≡ memorySize ⌝ }
+    requires { ⌜ (length (now memory) ≡ memorySize) × FitsKey (now key) (now originator) ⌝ }
     ensures { λ _. ⌜ memoryOf (now (memory .exit)) ≡ rowsAs (withdrawRows (isMarked live) (entry (now (key .entry)) (now (originator .entry)))) (now (memory .entry)) ⌝ }
     ensures kept { λ _. ⌜ (tables.has (holds (entry (now (key .entry)) (now (originator .entry)))) (rowsIn (now (memory .entry))) ≡ false → now (memory .exit) ≡ now (memory .entry)) ⌝ }
 {
@@ -169,7 +179,7 @@ pub fn withdraw_entry(memory: &mut [u8], live: u8, key: &[u8], originator: &[u8]
 
 // The entry gets the last number, and no payload.
 pub fn purge_entry(memory: &mut [u8], live: u8, key: &[u8], originator: &[u8])
-    requires { ⌜ length (now memory) ≡ memorySize ⌝ }
+    requires { ⌜ (length (now memory) ≡ memorySize) × FitsKey (now key) (now originator) ⌝ }
     ensures { λ _. ⌜ memoryOf (now (memory .exit)) ≡ rowsAs (purgeRows (isMarked live) (entry (now (key .entry)) (now (originator .entry)))) (now (memory .entry)) ⌝ }
     ensures kept { λ _. ⌜ (tables.has (holds (entry (now (key .entry)) (now (originator .entry)))) (rowsIn (now (memory .entry))) ≡ false → now (memory .exit) ≡ now (memory .entry)) ⌝ }
 {
@@ -182,7 +192,7 @@ pub fn purge_entry(memory: &mut [u8], live: u8, key: &[u8], originator: &[u8])
 // ---- what is held
 // Whether the row of the entry has a number no smaller.
 pub fn is_up_to_date(memory: &[u8], key: &[u8], originator: &[u8], number: CsaNumber) -> bool
-    requires { ⌜ length (now memory) ≡ memorySize ⌝ }
+    requires { ⌜ (length (now memory) ≡ memorySize) × FitsKey (now key) (now originator) ⌝ }
     ensures { λ r. ⌜ r ≡ upToDate number (entryRow (entry (now (key .entry)) (now (originator .entry))) (rowsIn (now (memory .entry)))) ⌝ }
 {
     match rows::find(memory, key, originator) {

@@ -12,31 +12,35 @@ pub const KEY: usize = 16;
 
 pub const PAYLOAD: usize = 32;
 
-// In a row or a request.
+// Where the name stands in a row's body.
+pub const NAME_PLACE: usize = 8;
+
+// In a request's room.
 pub const NUMBER_PLACE: usize = 4;
 
 pub const ORIGINATOR_PLACE: usize = 8;
 
 pub const KEY_PLACE: usize = 12;
 
-pub const PAYLOAD_PLACE: usize = 28;
-
-// The payload's room and the four octets behind it.
-pub const ROW_TAIL: usize = 36;
-
-// The sections.
 pub const ROW_SIZE: usize = 64;
 
-pub const MARKS_AT: usize = 4096;
+// The sections.
+pub const LENGTHS_AT: usize = 4096;
 
-pub const REQUESTS_AT: usize = 4160;
+pub const MARKS_AT: usize = 4160;
 
-pub const ROOMS_AT: usize = 4162;
+pub const TOPS_AT: usize = 4224;
+
+pub const TAGS_AT: usize = 4288;
+
+pub const REQUESTS_AT: usize = 4352;
+
+pub const ROOMS_AT: usize = 4354;
 
 pub const REQUEST_SIZE: usize = 28;
 
 pub const LIST_SIZE: usize = 1794;
 
-pub const KEPT_AT: usize = 18512;
+pub const KEPT_AT: usize = 18704;
 
 pub const KEPT_SIZE: usize = 286;

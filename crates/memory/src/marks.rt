@@ -3,21 +3,23 @@ ghost use mathlib.Core.Path.{_≡_};
 ghost use mathlib.Core.Bool.{true, false};
 ghost use mathlib.Core.List.{map};
 ghost use Prim.Native.Nat.{_^_, _<_};
+ghost use lib.Dec.{eqb};
 ghost use lib.ListN.{length};
-ghost use Rattle.laws.specs.Tables.{on};
-ghost use Rattle.protocol.specs.Fields.{octet};
-ghost use Rattle.rules.specs.Server.{slotsMost, rowsMost, isFree, waitsFor, rowAt};
+ghost use Rattle.laws.specs.Choice.{pick};
+ghost use Rattle.laws.specs.Tables.{on, has};
+ghost use Rattle.rules.specs.Server.{slotsMost, rowsMost, waitsFor, rowAt};
 ghost use Rattle.rules.specs.Rows as rules;
 ghost use Rattle.rules.specs.Updates.{waitsAgain, replied};
-ghost use Rattle.memory.specs.Layout.{memorySize, markPlace};
+ghost use Rattle.memory.specs.Layout.{memorySize};
 ghost use Rattle.memory.specs.Memory.{isMarked, rowsIn, memoryOf, withRows};
-ghost use Rattle.memory.specs.Marks.{marked, changedAt, PutMarks};
+ghost use Rattle.memory.specs.Marks.{withMarks, marked, changedAt, AnyMarks};
+use crate::layout::LENGTHS_AT;
 use crate::layout::MARKS_AT;
-use crate::layout::ROW_SIZE;
 use crate::layout::ROWS;
 use crate::rows;
 use protocol::CsaNumber;
 
+// ---- an octet of marks
 fn power_of(k: usize) -> u8
     requires { ⌜ k < slotsMost ⌝ }
     ensures { λ r. ⌜ (r ≡ 2 ^ k) × (0 < r) ⌝ }
@@ -34,7 +36,7 @@ fn power_of(k: usize) -> u8
     }
 }
 
-fn is_marked(b: u8, k: usize) -> bool
+pub fn is_marked(b: u8, k: usize) -> bool
     requires { ⌜ k < slotsMost ⌝ }
     ensures { λ r. ⌜ r ≡ isMarked b k ⌝ }
 {
@@ -74,76 +76,82 @@ pub fn spread_of(live: u8, k: usize, remaining: u16) -> u8
     without_mark(live, k)
 }
 
-// Row i's octet of marks.
-pub fn marks_of(memory: &[u8], i: usize) -> u8
-    requires { ⌜ (length (now memory) ≡ memorySize) × (i < rowsMost) ⌝ }
-    ensures { λ r. ⌜ r ≡ octet (now (memory .entry)) (markPlace i) ⌝ }
-{
-    memory[MARKS_AT + i]
-}
-
+// ---- the marks of rows
 // Whether row i waits for slot k.
 pub fn waits(memory: &[u8], i: usize, k: usize) -> bool
     requires { ⌜ (length (now memory) ≡ memorySize) × ((i < rowsMost) × (k < slotsMost)) ⌝ }
     ensures { λ r. ⌜ r ≡ waitsFor k (rowAt (rowsIn (now (memory .entry))) i) ⌝ }
 {
-    if memory[i * ROW_SIZE] == 0 {
+    if memory[LENGTHS_AT + i] == 0 {
         return false;
     }
     is_marked(memory[MARKS_AT + i], k)
 }
 
+fn if_used(length: u8, marks: u8) -> u8
+    ensures { λ r. ⌜ r ≡ pick (eqb length 0) 0 marks ⌝ }
+{
+    if length == 0 {
+        return 0;
+    }
+    marks
+}
+
+// The slots that some row waits for: without a way out, so that the compiler takes 16 rows at a time.
+pub fn any_marks(memory: &[u8]) -> u8
+    requires { ⌜ length (now memory) ≡ memorySize ⌝ }
+    ensures { λ r. ⌜ AnyMarks (rowsIn (now (memory .entry))) r ⌝ }
+{
+    let mut all: u8 = 0;
+    let mut i: usize = 0;
+    while i < ROWS {
+        all = all | if_used(memory[LENGTHS_AT + i], memory[MARKS_AT + i]);
+        i += 1;
+    }
+    all
+}
+
 // Row i has these marks.
 pub fn put_marks(memory: &mut [u8], i: usize, marks: u8)
     requires { ⌜ (length (now memory) ≡ memorySize) × (i < rowsMost) ⌝ }
-    ensures { λ _. ⌜ PutMarks i marks (now (memory .entry)) (now (memory .exit)) ⌝ }
+    ensures { λ _. ⌜ memoryOf (now (memory .exit)) ≡ changedAt (withMarks (isMarked marks)) i (now (memory .entry)) ⌝ }
 {
     memory[MARKS_AT + i] = marks;
 }
 
 // Row i waits for slot k.
-pub fn set_mark(memory: &mut [u8], i: usize, k: usize)
+fn set_mark(memory: &mut [u8], i: usize, k: usize)
     requires { ⌜ (length (now memory) ≡ memorySize) × ((i < rowsMost) × (k < slotsMost)) ⌝ }
     ensures { λ _. ⌜ memoryOf (now (memory .exit)) ≡ changedAt (marked k) i (now (memory .entry)) ⌝ }
-    ensures kept { λ _. ⌜ (isFree (rowAt (rowsIn (now (memory .entry))) i) ≡ true → now (memory .exit) ≡ now (memory .entry)) ⌝ }
 {
-    if !rows::is_used(memory, i) {
-        return;
-    }
-    let b = with_mark(marks_of(memory, i), k);
-    put_marks(memory, i, b);
+    let b = with_mark(memory[MARKS_AT + i], k);
+    put_marks(memory, i, b)
 }
 
 // Row i does not wait for slot k.
 pub fn clear_mark(memory: &mut [u8], i: usize, k: usize)
     requires { ⌜ (length (now memory) ≡ memorySize) × ((i < rowsMost) × (k < slotsMost)) ⌝ }
     ensures { λ _. ⌜ memoryOf (now (memory .exit)) ≡ changedAt (rules.unmarked k) i (now (memory .entry)) ⌝ }
-    ensures kept { λ _. ⌜ (isFree (rowAt (rowsIn (now (memory .entry))) i) ≡ true → now (memory .exit) ≡ now (memory .entry)) ⌝ }
 {
-    if !rows::is_used(memory, i) {
-        return;
-    }
-    let b = without_mark(marks_of(memory, i), k);
-    put_marks(memory, i, b);
+    let b = without_mark(memory[MARKS_AT + i], k);
+    put_marks(memory, i, b)
 }
 
-// An older record of row i's entry came from slot k: the row waits for it, if hops remain.
-pub fn owe(memory: &mut [u8], i: usize, k: usize)
+// An older record of row i's entry was received from slot k: the row waits for it again, if hops remain.
+pub fn mark_again(memory: &mut [u8], i: usize, k: usize)
     requires { ⌜ (length (now memory) ≡ memorySize) × ((i < rowsMost) × (k < slotsMost)) ⌝ }
     ensures { λ _. ⌜ memoryOf (now (memory .exit)) ≡ changedAt (waitsAgain k) i (now (memory .entry)) ⌝ }
-    ensures kept { λ _. ⌜ (isFree (rowAt (rowsIn (now (memory .entry))) i) ≡ true → now (memory .exit) ≡ now (memory .entry)) ⌝ }
 {
-    if octets::field2(memory, i * ROW_SIZE + 2) == 0 {
+    if rows::remaining_of(memory, i) == 0 {
         return;
     }
-    set_mark(memory, i, k);
+    set_mark(memory, i, k)
 }
 
-// A reply came from slot k with a number of row i's entry: with the number held, the row waits for it no more.
-pub fn settle(memory: &mut [u8], i: usize, k: usize, number: CsaNumber)
+// A reply was received from slot k with a number of row i's entry: with the number held, the row waits for it no more.
+pub fn reply_mark(memory: &mut [u8], i: usize, k: usize, number: CsaNumber)
     requires { ⌜ (length (now memory) ≡ memorySize) × ((i < rowsMost) × (k < slotsMost)) ⌝ }
     ensures { λ _. ⌜ memoryOf (now (memory .exit)) ≡ changedAt (replied k number) i (now (memory .entry)) ⌝ }
-    ensures kept { λ _. ⌜ (isFree (rowAt (rowsIn (now (memory .entry))) i) ≡ true → now (memory .exit) ≡ now (memory .entry)) ⌝ }
 {
     let held = rows::number_of(memory, i);
     if numbers::newer(number, held) {
@@ -152,7 +160,7 @@ pub fn settle(memory: &mut [u8], i: usize, k: usize, number: CsaNumber)
     if numbers::newer(held, number) {
         return;
     }
-    clear_mark(memory, i, k);
+    clear_mark(memory, i, k)
 }
 
 // No row waits for slot k.

@@ -56,9 +56,8 @@ pub fn used_from(memory: &[u8], from: usize) -> bool
     false
 }
 
-// The next four rows that wait for slot k from row from on, going round, or all if fewer. Places are counted on past the last row: the row
-// of a place is its remainder by 64.
-pub fn next_waiting(memory: &[u8], k: usize, from: usize) -> Picks
+// The next four rows that wait for slot k, row by row.
+fn waiting_from(memory: &[u8], k: usize, from: usize) -> Picks
     requires { ⌜ (length (now memory) ≡ memorySize) × ((k < slotsMost) × (from ≤ 4294967295)) ⌝ }
     ensures { λ r. ⌜ Picked from (nextWaiting (rowsIn (now (memory .entry))) k from) r ⌝ }
 {
@@ -80,4 +79,21 @@ pub fn next_waiting(memory: &[u8], k: usize, from: usize) -> Picks
         left -= 1;
     }
     Picks { count, rows, next }
+}
+
+// The next four rows that wait for slot k from row from on, going round, or all if fewer. Places are counted on past the last row: the row
+// of a place is its remainder by 64. Whether any row waits is asked of all marks at once first.
+pub fn next_waiting(memory: &[u8], k: usize, from: usize) -> Picks
+    requires { ⌜ (length (now memory) ≡ memorySize) × ((k < slotsMost) × (from ≤ 4294967295)) ⌝ }
+    ensures { λ r. ⌜ Picked from (nextWaiting (rowsIn (now (memory .entry))) k from) r ⌝ }
+{
+    if marks::is_marked(marks::any_marks(memory), k) {
+        return waiting_from(memory, k, from);
+    }
+    let rows = [0usize; 4];
+    Picks {
+        count: 0,
+        rows,
+        next: from,
+    }
 }

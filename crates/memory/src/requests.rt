@@ -23,7 +23,6 @@ use crate::layout::ORIGINATOR_PLACE;
 use crate::layout::REQUESTS;
 use crate::layout::REQUESTS_AT;
 use crate::room;
-use crate::rows;
 use crate::sizes;
 use protocol::CsaNumber;
 
@@ -88,7 +87,7 @@ fn asks(memory: &[u8], k: usize, i: usize, key: &[u8], originator: &[u8]) -> boo
     requires { ⌜ (k < 8) × ((i < 64) × (length (now memory) ≡ memorySize)) ⌝ }
     ensures { λ r. ⌜ r ≡ rules.asks (entry (now (key .entry)) (now (originator .entry))) (getD (roomsIn (now (memory .entry)) k) i noRequest) ⌝ }
 {
-    rows::entry_is(memory, room::place(k, i), key, originator)
+    room::entry_is(memory, room::place(k, i), key, originator)
 }
 
 // ---- an entry joins

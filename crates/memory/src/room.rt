@@ -2,12 +2,17 @@
 ghost use mathlib.Core.Path.{_≡_};
 ghost use Prim.Native.Nat.{_+_, _≤_, _<_};
 ghost use lib.ListN.{length, getD, set};
+ghost use Rattle.laws.specs.Lists.{part};
 ghost use Rattle.laws.specs.Puts.{putAt};
 ghost use Rattle.protocol.specs.Fields.{field2};
-ghost use Rattle.memory.specs.Layout.{memorySize, listPlace, requestPlace};
+ghost use Rattle.memory.specs.Layout.{requestSize, memorySize, listPlace, requestPlace};
+ghost use Rattle.rules.specs.Server.{sameEntry};
+ghost use Rattle.memory.specs.Memory.{entryAt};
 ghost use Rattle.memory.specs.Search.{entry};
 ghost use Rattle.memory.specs.Lists as lists;
 ghost use Rattle.memory.specs.Lists.{requestOf, roomsIn, noRequest, Listed};
+use crate::layout::ID;
+use crate::layout::KEY;
 use crate::layout::KEY_PLACE;
 use crate::layout::LIST_SIZE;
 use crate::layout::ORIGINATOR_PLACE;
@@ -21,6 +26,42 @@ pub fn place(k: usize, i: usize) -> usize
     ensures { λ r. ⌜ (r ≡ requestPlace k i) × (r + 28 ≤ memorySize) ⌝ }
 {
     ROOMS_AT + k * LIST_SIZE + i * REQUEST_SIZE
+}
+
+// The n octets at a place that is inside.
+fn inside(memory: &[u8], at: usize, n: usize) -> &[u8]
+    requires { ⌜ at + n ≤ length (now memory) ⌝ }
+    ensures { λ r. ⌜ now r ≡ part (now (memory .entry)) at n ⌝ }
+{
+    let to = at + n;
+    &memory[at..to]
+}
+
+pub fn key_at(memory: &[u8], at: usize) -> &[u8]
+    requires { ⌜ (length (now memory) ≡ memorySize) × (at + requestSize ≤ memorySize) ⌝ }
+    ensures { λ r. ⌜ now r ≡ entryAt (now (memory .entry)) at .key ⌝ }
+{
+    let n = memory[at] as usize;
+    octets::first(inside(memory, at + KEY_PLACE, KEY), n)
+}
+
+pub fn originator_at(memory: &[u8], at: usize) -> &[u8]
+    requires { ⌜ (length (now memory) ≡ memorySize) × (at + requestSize ≤ memorySize) ⌝ }
+    ensures { λ r. ⌜ now r ≡ entryAt (now (memory .entry)) at .originator ⌝ }
+{
+    inside(memory, at + ORIGINATOR_PLACE, ID)
+}
+
+// Whether it is this entry: the key first, by its length and then its octets.
+pub fn entry_is(memory: &[u8], at: usize, key: &[u8], originator: &[u8]) -> bool
+    requires { ⌜ (length (now memory) ≡ memorySize) × (at + requestSize ≤ memorySize) ⌝ }
+    ensures { λ r. ⌜ r ≡ sameEntry (entryAt (now (memory .entry)) at) (entry (now (key .entry)) (now (originator .entry))) ⌝ }
+{
+    if octets::same(key_at(memory, at), key) {
+        let held = originator_at(memory, at);
+        return octets::same(held, originator);
+    }
+    false
 }
 
 // The octets of a room, and octets into a room.

@@ -1,22 +1,28 @@
-// The rows: found by entry, counted, read where they lie.
+// The rows: read where they lie, found by entry, counted. An entry is given by its name: key and originator, one behind the other.
 ghost use mathlib.Core.Path.{_≡_};
-ghost use Prim.Native.Nat.{_+_, _≤_, _<_};
-ghost use lib.ListN.{length};
-ghost use Rattle.laws.specs.Lists.{part};
+ghost use mathlib.Core.Bool.{not};
+ghost use mathlib.Core.List.{_++_};
+ghost use Prim.Native.Nat.{_+_, _-_, _≤_, _<_};
+ghost use lib.Dec.{eqb};
+ghost use lib.ListN.{length, drop};
 ghost use Rattle.laws.specs.Choice.{pick};
-ghost use Rattle.rules.specs.Server.{rowsMost, isFree, isUsed, holds, sameEntry, rowsUsed};
-ghost use Rattle.memory.specs.Layout.{requestSize, memorySize, rowPlace};
-ghost use Rattle.memory.specs.Memory.{entryAt, valueAt, rowIn, rowsIn};
-ghost use Rattle.memory.specs.Search.{entry, firstFrom};
+ghost use Rattle.laws.specs.Lists.{part};
+ghost use Rattle.protocol.specs.Sizes.{idLength};
+ghost use Rattle.rules.specs.Server.{rowsMost, isFree, isUsed, holds, rowsUsed};
+ghost use Rattle.memory.specs.Layout.{memorySize, namePlace, rowPlace};
+ghost use Rattle.memory.specs.Memory.{entryNamed, tagOf, keyRoom, rowName, rowEntry, bitsAt, payloadLength, valueAt, rowIn, rowsIn};
+ghost use Rattle.memory.specs.Search.{entry, FitsKey, firstFrom};
 use crate::layout::ID;
 use crate::layout::KEY;
-use crate::layout::KEY_PLACE;
-use crate::layout::NUMBER_PLACE;
-use crate::layout::ORIGINATOR_PLACE;
+use crate::layout::LENGTHS_AT;
+use crate::layout::NAME_PLACE;
 use crate::layout::PAYLOAD;
-use crate::layout::PAYLOAD_PLACE;
 use crate::layout::ROW_SIZE;
 use crate::layout::ROWS;
+use crate::layout::TAGS_AT;
+use crate::layout::TOPS_AT;
+use crate::names;
+use crate::tags;
 use protocol::CsaNumber;
 
 pub enum Found {
@@ -24,147 +30,218 @@ pub enum Found {
     Nothing,
 }
 
-// The n octets at a place that is inside.
-fn inside(memory: &[u8], at: usize, n: usize) -> &[u8]
-    requires { ⌜ at + n ≤ length (now memory) ⌝ }
-    ensures { λ r. ⌜ now r ≡ part (now (memory .entry)) at n ⌝ }
-{
-    let to = at + n;
-    &memory[at..to]
-}
-
-// ---- the entry at a place, of a row or of a request
-pub fn key_at(memory: &[u8], at: usize) -> &[u8]
-    requires { ⌜ (length (now memory) ≡ memorySize) × (at + requestSize ≤ memorySize) ⌝ }
-    ensures { λ r. ⌜ now r ≡ entryAt (now (memory .entry)) at .key ⌝ }
-{
-    let n = memory[at] as usize;
-    octets::first(inside(memory, at + KEY_PLACE, KEY), n)
-}
-
-pub fn originator_at(memory: &[u8], at: usize) -> &[u8]
-    requires { ⌜ (length (now memory) ≡ memorySize) × (at + requestSize ≤ memorySize) ⌝ }
-    ensures { λ r. ⌜ now r ≡ entryAt (now (memory .entry)) at .originator ⌝ }
-{
-    inside(memory, at + ORIGINATOR_PLACE, ID)
-}
-
-// Whether it is this entry: the key first, by its length and then its octets.
-pub fn entry_is(memory: &[u8], at: usize, key: &[u8], originator: &[u8]) -> bool
-    requires { ⌜ (length (now memory) ≡ memorySize) × (at + requestSize ≤ memorySize) ⌝ }
-    ensures { λ r. ⌜ r ≡ sameEntry (entryAt (now (memory .entry)) at) (entry (now (key .entry)) (now (originator .entry))) ⌝ }
-{
-    if octets::same(key_at(memory, at), key) {
-        let held = originator_at(memory, at);
-        return octets::same(held, originator);
-    }
-    false
-}
-
 // ---- row i
 pub fn is_used(memory: &[u8], i: usize) -> bool
     requires { ⌜ (length (now memory) ≡ memorySize) × (i < rowsMost) ⌝ }
     ensures { λ r. ⌜ r ≡ isUsed (rowIn (now (memory .entry)) i) ⌝ }
 {
-    memory[i * ROW_SIZE] != 0
+    memory[LENGTHS_AT + i] != 0
+}
+
+// The length of the key as it stands there; one over the room counts as the room.
+pub fn key_room(memory: &[u8], i: usize) -> usize
+    requires { ⌜ (length (now memory) ≡ memorySize) × (i < rowsMost) ⌝ }
+    ensures { λ r. ⌜ (r ≡ keyRoom (now (memory .entry)) i) × (r ≤ 16) ⌝ }
+{
+    let n = memory[LENGTHS_AT + i] as usize;
+    if n < KEY {
+        return n;
+    }
+    KEY
+}
+
+pub fn name_of(memory: &[u8], i: usize) -> &[u8]
+    requires { ⌜ (length (now memory) ≡ memorySize) × (i < rowsMost) ⌝ }
+    ensures { λ r. ⌜ now r ≡ rowName (now (memory .entry)) i ⌝ }
+{
+    let at = i * ROW_SIZE + NAME_PLACE;
+    let to = at + key_room(memory, i) + ID;
+    &memory[at..to]
+}
+
+// The length of the entry's key: 0 where the tag is not that of the name.
+pub fn key_len(memory: &[u8], i: usize) -> usize
+    requires { ⌜ (length (now memory) ≡ memorySize) × (i < rowsMost) ⌝ }
+    ensures { λ r. ⌜ (r ≡ length (rowEntry (now (memory .entry)) i .key)) × (r ≤ 16) ⌝ }
+{
+    if memory[TAGS_AT + i] == tags::tag_of(name_of(memory, i)) {
+        return key_room(memory, i);
+    }
+    0
+}
+
+pub fn payload_len(memory: &[u8], i: usize) -> usize
+    requires { ⌜ (length (now memory) ≡ memorySize) × (i < rowsMost) ⌝ }
+    ensures { λ r. ⌜ (r ≡ payloadLength (now (memory .entry)) i) × (r ≤ 32) ⌝ }
+{
+    let n = memory[i * ROW_SIZE] as usize;
+    if n < PAYLOAD {
+        return n;
+    }
+    PAYLOAD
+}
+
+// The last n octets of the key's room, the originator, and m octets more.
+fn around(memory: &[u8], i: usize, n: usize, m: usize) -> &[u8]
+    requires { ⌜ ((length (now memory) ≡ memorySize) × (i < rowsMost)) × ((n ≤ keyRoom (now memory) i) × (m ≤ 32)) ⌝ }
+    ensures { λ r. ⌜ now r ≡ part (now (memory .entry)) (rowPlace i + namePlace + keyRoom (now (memory .entry)) i - n) (n + idLength + m) ⌝ }
+{
+    let end = i * ROW_SIZE + NAME_PLACE + key_room(memory, i);
+    let from = end - n;
+    let to = end + ID + m;
+    &memory[from..to]
+}
+
+// Key and originator of the entry, whose key has n octets.
+pub fn entry_of(memory: &[u8], i: usize, n: usize) -> &[u8]
+    requires { ⌜ ((length (now memory) ≡ memorySize) × (i < rowsMost)) × (n ≡ length (rowEntry (now memory) i .key)) ⌝ }
+    ensures { λ r. ⌜ now r ≡ rowEntry (now (memory .entry)) i .key ++ rowEntry (now (memory .entry)) i .originator ⌝ }
+{
+    around(memory, i, n, 0)
+}
+
+// Key, originator and payload, one behind the other.
+pub fn body_of(memory: &[u8], i: usize, n: usize) -> &[u8]
+    requires { ⌜ ((length (now memory) ≡ memorySize) × (i < rowsMost)) × (n ≡ length (rowEntry (now memory) i .key)) ⌝ }
+    ensures { λ r. ⌜ now r ≡ (rowEntry (now (memory .entry)) i .key ++ rowEntry (now (memory .entry)) i .originator) ++ valueAt (now (memory .entry)) i .payload ⌝ }
+{
+    around(memory, i, n, payload_len(memory, i))
 }
 
 pub fn key_of(memory: &[u8], i: usize) -> &[u8]
     requires { ⌜ (length (now memory) ≡ memorySize) × (i < rowsMost) ⌝ }
-    ensures { λ r. ⌜ now r ≡ entryAt (now (memory .entry)) (rowPlace i) .key ⌝ }
+    ensures { λ r. ⌜ now r ≡ rowEntry (now (memory .entry)) i .key ⌝ }
 {
-    key_at(memory, i * ROW_SIZE)
+    let n = key_len(memory, i);
+    octets::first(entry_of(memory, i, n), n)
 }
 
 pub fn originator_of(memory: &[u8], i: usize) -> &[u8]
     requires { ⌜ (length (now memory) ≡ memorySize) × (i < rowsMost) ⌝ }
-    ensures { λ r. ⌜ now r ≡ entryAt (now (memory .entry)) (rowPlace i) .originator ⌝ }
+    ensures { λ r. ⌜ now r ≡ rowEntry (now (memory .entry)) i .originator ⌝ }
 {
-    originator_at(memory, i * ROW_SIZE)
-}
-
-pub fn number_of(memory: &[u8], i: usize) -> CsaNumber
-    requires { ⌜ (length (now memory) ≡ memorySize) × (i < rowsMost) ⌝ }
-    ensures { λ r. ⌜ r ≡ valueAt (now (memory .entry)) (rowPlace i) .number ⌝ }
-{
-    numbers::csa_of(octets::field4(memory, i * ROW_SIZE + NUMBER_PLACE))
+    let n = key_len(memory, i);
+    octets::tail(entry_of(memory, i, n), n)
 }
 
 pub fn payload_of(memory: &[u8], i: usize) -> &[u8]
     requires { ⌜ (length (now memory) ≡ memorySize) × (i < rowsMost) ⌝ }
-    ensures { λ r. ⌜ now r ≡ valueAt (now (memory .entry)) (rowPlace i) .payload ⌝ }
+    ensures { λ r. ⌜ now r ≡ valueAt (now (memory .entry)) i .payload ⌝ }
+{
+    let at = i * ROW_SIZE + NAME_PLACE + key_room(memory, i) + ID;
+    octets::part_of(memory, at, payload_len(memory, i))
+}
+
+fn wide(x: u8) -> u32
+    ensures { λ r. ⌜ (r ≡ x) × (r ≤ 255) ⌝ }
+{
+    x as u32
+}
+
+pub fn bits_of(memory: &[u8], i: usize) -> u32
+    requires { ⌜ (length (now memory) ≡ memorySize) × (i < rowsMost) ⌝ }
+    ensures { λ r. ⌜ r ≡ bitsAt (now (memory .entry)) i ⌝ }
 {
     let at = i * ROW_SIZE;
-    let n = octets::octet(memory, at + 1) as usize;
-    octets::first(octets::part_of(memory, at + PAYLOAD_PLACE, PAYLOAD), n)
+    ((wide(memory[TOPS_AT + i]) * 256 + wide(memory[at + 5])) * 256 + wide(memory[at + 6])) * 256
+        + wide(memory[at + 7])
+}
+
+pub fn number_of(memory: &[u8], i: usize) -> CsaNumber
+    requires { ⌜ (length (now memory) ≡ memorySize) × (i < rowsMost) ⌝ }
+    ensures { λ r. ⌜ r ≡ valueAt (now (memory .entry)) i .number ⌝ }
+{
+    numbers::csa_of(bits_of(memory, i))
 }
 
 pub fn remaining_of(memory: &[u8], i: usize) -> u16
     requires { ⌜ (length (now memory) ≡ memorySize) × (i < rowsMost) ⌝ }
-    ensures { λ r. ⌜ r ≡ valueAt (now (memory .entry)) (rowPlace i) .remaining ⌝ }
+    ensures { λ r. ⌜ r ≡ valueAt (now (memory .entry)) i .remaining ⌝ }
 {
     octets::field2(memory, i * ROW_SIZE + 2)
 }
 
-// Whether row i is used by this entry.
-pub fn row_is(memory: &[u8], i: usize, key: &[u8], originator: &[u8]) -> bool
-    requires { ⌜ (length (now memory) ≡ memorySize) × (i < rowsMost) ⌝ }
-    ensures { λ r. ⌜ r ≡ holds (entry (now (key .entry)) (now (originator .entry))) (rowIn (now (memory .entry)) i) ⌝ }
+// ---- searches
+// Whether row i holds the entry, whose tag is t.
+fn row_is(memory: &[u8], i: usize, name: &[u8], t: u8) -> bool
+    requires { ⌜ ((length (now memory) ≡ memorySize) × (i < rowsMost)) × ((4 < length (now name)) × (t ≡ tagOf (now name))) ⌝ }
+    ensures { λ r. ⌜ r ≡ holds (entryNamed (now (name .entry))) (rowIn (now (memory .entry)) i) ⌝ }
 {
+    if memory[TAGS_AT + i] != t {
+        return false;
+    }
     if is_used(memory, i) {
-        return entry_is(memory, i * ROW_SIZE, key, originator);
+        let held = name_of(memory, i);
+        return octets::same(held, name);
     }
     false
 }
 
-// ---- searches
-pub fn find(memory: &[u8], key: &[u8], originator: &[u8]) -> Found
-    requires { ⌜ length (now memory) ≡ memorySize ⌝ }
-    ensures { λ r. ⌜ r ≡ firstFrom (holds (entry (now (key .entry)) (now (originator .entry)))) 0 (rowsIn (now (memory .entry))) ⌝ }
+// Row by row from `from` on.
+fn find_from(memory: &[u8], name: &[u8], t: u8, from: usize) -> Found
+    requires { ⌜ (length (now memory) ≡ memorySize) × ((4 < length (now name)) × (t ≡ tagOf (now name))) ⌝ }
+    ensures { λ r. ⌜ r ≡ firstFrom (holds (entryNamed (now (name .entry)))) from (drop from (rowsIn (now (memory .entry)))) ⌝ }
 {
-    let mut i: usize = 0;
+    let mut i = from;
     while i < ROWS {
-        if row_is(memory, i, key, originator) {
+        if row_is(memory, i, name, t) {
             return Found::At(i);
         }
         i += 1;
     }
     Found::Nothing
+}
+
+// The row of an entry: from the first row that has its tag on.
+pub fn find_named(memory: &[u8], name: &[u8]) -> Found
+    requires { ⌜ (length (now memory) ≡ memorySize) × (4 < length (now name)) ⌝ }
+    ensures { λ r. ⌜ r ≡ firstFrom (holds (entryNamed (now (name .entry)))) 0 (rowsIn (now (memory .entry))) ⌝ }
+{
+    let t = tags::tag_of(name);
+    let from = tags::first_octet(memory, TAGS_AT, t) as usize;
+    find_from(memory, name, t, from)
 }
 
 pub fn free_row(memory: &[u8]) -> Found
     requires { ⌜ length (now memory) ≡ memorySize ⌝ }
     ensures { λ r. ⌜ r ≡ firstFrom isFree 0 (rowsIn (now (memory .entry))) ⌝ }
 {
-    let mut i: usize = 0;
-    while i < ROWS {
-        if !is_used(memory, i) {
-            return Found::At(i);
-        }
-        i += 1;
+    let i = tags::first_octet(memory, LENGTHS_AT, 0) as usize;
+    if i < ROWS {
+        return Found::At(i);
     }
     Found::Nothing
 }
 
-fn one_if_used(memory: &[u8], i: usize) -> usize
-    requires { ⌜ (length (now memory) ≡ memorySize) × (i < rowsMost) ⌝ }
-    ensures { λ r. ⌜ (r ≡ pick (isUsed (rowIn (now (memory .entry)) i)) 1 0) × (r ≤ 1) ⌝ }
+pub fn find(memory: &[u8], key: &[u8], originator: &[u8]) -> Found
+    requires { ⌜ (length (now memory) ≡ memorySize) × FitsKey (now key) (now originator) ⌝ }
+    ensures { λ r. ⌜ r ≡ firstFrom (holds (entry (now (key .entry)) (now (originator .entry)))) 0 (rowsIn (now (memory .entry))) ⌝ }
 {
-    if is_used(memory, i) {
-        return 1;
-    }
-    0
+    let n = names::of_entry(key, originator);
+    let octets = n.octets;
+    find_named(memory, octets::first(&octets, n.len))
 }
 
+// ---- the count
+fn one_if(length: u8) -> u8
+    ensures { λ r. ⌜ (r ≡ pick (not (eqb length 0)) 1 0) × (r ≤ 1) ⌝ }
+{
+    if length == 0 {
+        return 0;
+    }
+    1
+}
+
+// In an octet, so that the compiler counts 16 rows at a time.
 pub fn rows_used(memory: &[u8]) -> usize
     requires { ⌜ length (now memory) ≡ memorySize ⌝ }
     ensures { λ r. ⌜ r ≡ rowsUsed (rowsIn (now (memory .entry))) ⌝ }
 {
-    let mut n: usize = 0;
+    let mut n: u8 = 0;
     let mut i: usize = 0;
     while i < ROWS {
-        n += one_if_used(memory, i);
+        n += one_if(memory[LENGTHS_AT + i]);
         i += 1;
     }
-    n
+    n as usize
 }

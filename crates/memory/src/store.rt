@@ -1,27 +1,26 @@
-// The rows put: by their octets, in the lowest free row, freed at the end of an event; and a fresh memory.
+// The rows put and freed; and a fresh memory.
 ghost use mathlib.Core.Path.{_≡_};
-ghost use mathlib.Core.Bool.{false};
-ghost use Prim.Native.Nat.{_+_, _≤_, _<_};
+ghost use Prim.Native.Nat.{_≤_, _<_};
 ghost use lib.ListN.{length};
-ghost use lib.ListN as lists;
-ghost use Rattle.laws.specs.Lists.{part};
-ghost use Rattle.laws.specs.Puts.{putAt, Put};
 ghost use Rattle.protocol.specs.Sizes.{payloadMost};
 ghost use Rattle.rules.specs.Server.{rowsMost, free, used};
 ghost use Rattle.rules.specs.Rows.{isPurged, toFree, sweptRow, swept};
 ghost use Rattle.rules.specs.Updates.{value};
-ghost use Rattle.memory.specs.Layout.{rowSize, memorySize, rowPlace};
-ghost use Rattle.memory.specs.Memory.{isMarked, rowIn, rowsIn, memoryOf, withRows, freshMemory};
-ghost use Rattle.memory.specs.Search.{entry, withRow, revalued, padded, valueHead, rowHead, rowOctets, revaluedOctets, FitsRow, PutRow, Inserts, SweepsFour};
+ghost use Rattle.memory.specs.Layout.{memorySize};
+ghost use Rattle.memory.specs.Memory.{entryNamed, isMarked, rowIn, rowsIn, memoryOf, withRows, freshMemory};
+ghost use Rattle.memory.specs.Search.{entry, FitsRow, rowHead, headPut, sectionsPut, withRow, revalued, Inserts, LastOrNone, FirstLast};
+use crate::layout::ID;
+use crate::layout::LENGTHS_AT;
 use crate::layout::MARKS_AT;
-use crate::layout::NUMBER_PLACE;
-use crate::layout::PAYLOAD_PLACE;
+use crate::layout::NAME_PLACE;
 use crate::layout::ROW_SIZE;
-use crate::layout::ROW_TAIL;
 use crate::layout::ROWS;
-use crate::marks;
+use crate::layout::TAGS_AT;
+use crate::layout::TOPS_AT;
+use crate::names;
 use crate::rows;
 use crate::rows::Found;
+use crate::tags;
 use protocol::CsaNumber;
 
 pub enum Inserted {
@@ -29,118 +28,36 @@ pub enum Inserted {
     Full,
 }
 
-// ---- octets put
-// src, then zeros up to n octets.
-fn put_padded(out: &mut [u8], at: usize, src: &[u8], n: usize) -> usize
-    requires { ⌜ (length (now src) ≤ n) × ((n ≤ 36) × (at + n + 36 ≤ length (now out))) ⌝ }
-    ensures { λ r. ⌜ Put (padded n (now (src .entry))) at (now (out .entry)) (now (out .exit)) r ⌝ }
+// ---- rows put
+// The first octets of a row's body, the number without its highest octet.
+fn row_head(payload: usize, bits: u32, remaining: u16) -> [u8; 8]
+    requires { ⌜ payload ≤ payloadMost ⌝ }
+    ensures { λ r. ⌜ r ≡ rowHead payload bits remaining ⌝ }
 {
-    let zeros = [0u8; 36];
-    let next = octets::put(out, at, src);
-    octets::put_first(out, next, &zeros, n - src.len())
-}
-
-fn value_head(number: CsaNumber, payload: &[u8], remaining: u16) -> [u8; 7]
-    requires { ⌜ length (now payload) ≤ 32 ⌝ }
-    ensures { λ r. ⌜ r ≡ valueHead (value number (now (payload .entry)) remaining) ⌝ }
-{
-    let n = payload.len() as u8;
-    let b = numbers::bits_of(number);
     [
-        n,
+        payload as u8,
+        0,
         (remaining / 256) as u8,
         (remaining % 256) as u8,
-        (b / 16777216) as u8,
-        (b / 65536 % 256) as u8,
-        (b / 256 % 256) as u8,
-        (b % 256) as u8,
+        0,
+        (bits / 65536 % 256) as u8,
+        (bits / 256 % 256) as u8,
+        (bits % 256) as u8,
     ]
 }
 
-fn put_value_head(
-    out: &mut [u8],
-    at: usize,
-    number: CsaNumber,
-    payload: &[u8],
-    remaining: u16,
-) -> usize
-    requires { ⌜ (length (now payload) ≤ 32) × (at + 7 ≤ length (now out)) ⌝ }
-    ensures { λ r. ⌜ Put (valueHead (value number (now (payload .entry)) remaining)) at (now (out .entry)) (now (out .exit)) r ⌝ }
+// They, the number's highest octet and the marks.
+fn put_head(memory: &mut [u8], i: usize, payload: usize, bits: u32, remaining: u16, marks: u8)
+    requires { ⌜ ((length (now memory) ≡ memorySize) × (i < rowsMost)) × (payload ≤ payloadMost) ⌝ }
+    ensures { λ _. ⌜ now (memory .exit) ≡ headPut i payload bits remaining marks (now (memory .entry)) ⌝ }
 {
-    let head = value_head(number, payload, remaining);
-    octets::put(out, at, &head)
+    let head = row_head(payload, bits, remaining);
+    octets::put(memory, i * ROW_SIZE, &head);
+    memory[TOPS_AT + i] = (bits / 16777216) as u8;
+    memory[MARKS_AT + i] = marks;
 }
 
-fn put_row_head(
-    out: &mut [u8],
-    at: usize,
-    key: &[u8],
-    originator: &[u8],
-    number: CsaNumber,
-    payload: &[u8],
-    remaining: u16,
-) -> usize
-    requires { ⌜ FitsRow (now key) (now originator) (now payload) × (at + 12 ≤ length (now out)) ⌝ }
-    ensures { λ r. ⌜ Put (rowHead (entry (now (key .entry)) (now (originator .entry))) (value number (now (payload .entry)) remaining)) at (now (out .entry)) (now (out .exit)) r ⌝ }
-{
-    let first = [key.len() as u8];
-    let a = octets::put(out, at, &first);
-    let b = put_value_head(out, a, number, payload, remaining);
-    octets::put(out, b, originator)
-}
-
-fn put_row_octets(
-    out: &mut [u8],
-    at: usize,
-    key: &[u8],
-    originator: &[u8],
-    number: CsaNumber,
-    payload: &[u8],
-    remaining: u16,
-) -> usize
-    requires { ⌜ FitsRow (now key) (now originator) (now payload) × (at + 100 ≤ length (now out)) ⌝ }
-    ensures { λ r. ⌜ Put (rowOctets (entry (now (key .entry)) (now (originator .entry))) (value number (now (payload .entry)) remaining)) at (now (out .entry)) (now (out .exit)) r ⌝ }
-{
-    let a = put_row_head(out, at, key, originator, number, payload, remaining);
-    let b = put_padded(out, a, key, 16);
-    put_padded(out, b, payload, ROW_TAIL)
-}
-
-// ---- rows put
-pub fn put_row(
-    memory: &mut [u8],
-    i: usize,
-    key: &[u8],
-    originator: &[u8],
-    number: CsaNumber,
-    payload: &[u8],
-    remaining: u16,
-    marks: u8,
-)
-    requires { ⌜ (length (now memory) ≡ memorySize) × ((i < rowsMost) × FitsRow (now key) (now originator) (now payload)) ⌝ }
-    ensures { λ _. ⌜ PutRow i (entry (now (key .entry)) (now (originator .entry))) (value number (now (payload .entry)) remaining) (isMarked marks) (now (memory .entry)) (now (memory .exit)) ⌝ }
-{
-    put_row_octets(
-        memory,
-        i * ROW_SIZE,
-        key,
-        originator,
-        number,
-        payload,
-        remaining,
-    );
-    marks::put_marks(memory, i, marks);
-}
-
-fn put_value_octets(memory: &mut [u8], at: usize, number: CsaNumber, payload: &[u8], remaining: u16)
-    requires { ⌜ (length (now payload) ≤ 32) × (at + 100 ≤ length (now memory)) ⌝ }
-    ensures { λ _. ⌜ now (memory .exit) ≡ putAt (putAt (now (memory .entry)) (at + 1) (valueHead (value number (now (payload .entry)) remaining))) (at + 28) (padded 36 (now (payload .entry))) ⌝ }
-{
-    put_value_head(memory, at + 1, number, payload, remaining);
-    put_padded(memory, at + PAYLOAD_PLACE, payload, ROW_TAIL);
-}
-
-// Another value and other marks for the entry of a row; a free row stays free.
+// Another value and other marks for the entry of row i; a free row stays free.
 pub fn put_value(
     memory: &mut [u8],
     i: usize,
@@ -149,28 +66,55 @@ pub fn put_value(
     remaining: u16,
     marks: u8,
 )
-    requires { ⌜ (length (now memory) ≡ memorySize) × ((i < rowsMost) × (length (now payload) ≤ payloadMost)) ⌝ }
+    requires { ⌜ ((length (now memory) ≡ memorySize) × (i < rowsMost)) × (length (now payload) ≤ payloadMost) ⌝ }
     ensures { λ _. ⌜ memoryOf (now (memory .exit)) ≡ withRow (now (memory .entry)) i (revalued (value number (now (payload .entry)) remaining) (isMarked marks) (rowIn (now (memory .entry)) i)) ⌝ }
-    ensures octets { λ _. ⌜ part (now (memory .exit)) (rowPlace i) rowSize ≡ revaluedOctets (value number (now (payload .entry)) remaining) (part (now (memory .entry)) (rowPlace i) rowSize) ⌝ }
 {
-    put_value_octets(memory, i * ROW_SIZE, number, payload, remaining);
-    marks::put_marks(memory, i, marks);
+    let at = i * ROW_SIZE + NAME_PLACE + rows::key_room(memory, i) + ID;
+    put_head(
+        memory,
+        i,
+        payload.len(),
+        numbers::bits_of(number),
+        remaining,
+        marks,
+    );
+    octets::put(memory, at, payload);
 }
 
-fn clear_row(memory: &mut [u8], i: usize)
-    requires { ⌜ (length (now memory) ≡ memorySize) × (i < rowsMost) ⌝ }
-    ensures { λ _. ⌜ now (memory .exit) ≡ putAt (now (memory .entry)) (rowPlace i) (lists.replicate rowSize 0) ⌝ }
+// Key length and tag: they make it the row of the name that is put.
+fn put_sections(memory: &mut [u8], i: usize, key: usize, tag: u8)
+    requires { ⌜ ((length (now memory) ≡ memorySize) × (i < rowsMost)) × (key ≤ 16) ⌝ }
+    ensures { λ _. ⌜ now (memory .exit) ≡ sectionsPut i key tag (now (memory .entry)) ⌝ }
 {
-    let zeros = [0u8; 64];
-    octets::put(memory, i * ROW_SIZE, &zeros);
+    memory[LENGTHS_AT + i] = key as u8;
+    memory[TAGS_AT + i] = tag;
 }
 
-pub fn free_at(memory: &mut [u8], i: usize)
-    requires { ⌜ (length (now memory) ≡ memorySize) × (i < rowsMost) ⌝ }
-    ensures { λ _. ⌜ memoryOf (now (memory .exit)) ≡ withRow (now (memory .entry)) i free ⌝ }
+// Row i gains an entry, whatever it was. No other function gives a row an entry.
+pub fn put_row(
+    memory: &mut [u8],
+    i: usize,
+    name: &[u8],
+    number: CsaNumber,
+    payload: &[u8],
+    remaining: u16,
+    marks: u8,
+)
+    requires { ⌜ ((length (now memory) ≡ memorySize) × (i < rowsMost)) × (((4 < length (now name)) × (length (now name) ≤ 20)) × (length (now payload) ≤ payloadMost)) ⌝ }
+    ensures { λ _. ⌜ memoryOf (now (memory .exit)) ≡ withRow (now (memory .entry)) i (used (entryNamed (now (name .entry))) (value number (now (payload .entry)) remaining) (isMarked marks)) ⌝ }
 {
-    clear_row(memory, i);
-    marks::put_marks(memory, i, 0);
+    let tag = tags::tag_of(name);
+    put_head(
+        memory,
+        i,
+        payload.len(),
+        numbers::bits_of(number),
+        remaining,
+        marks,
+    );
+    put_sections(memory, i, name.len() - ID, tag);
+    let at = octets::put(memory, i * ROW_SIZE + NAME_PLACE, name);
+    octets::put(memory, at, payload);
 }
 
 // A new entry takes the lowest free row.
@@ -188,11 +132,12 @@ pub fn insert(
 {
     match rows::free_row(memory) {
         Found::At(i) => {
+            let n = names::of_entry(key, originator);
+            let octets = n.octets;
             put_row(
                 memory,
                 i,
-                key,
-                originator,
+                octets::first(&octets, n.len),
                 number,
                 payload,
                 remaining,
@@ -204,6 +149,14 @@ pub fn insert(
     }
 }
 
+// Row i loses its entry. No other function frees a row. Its tag is that of no name, so that a search passes it by.
+fn free_at(memory: &mut [u8], i: usize)
+    requires { ⌜ (length (now memory) ≡ memorySize) × (i < rowsMost) ⌝ }
+    ensures { λ _. ⌜ memoryOf (now (memory .exit)) ≡ withRow (now (memory .entry)) i free ⌝ }
+{
+    put_sections(memory, i, 0, 255)
+}
+
 // ---- the end of an event: a purged row that waits for nobody is freed
 pub fn is_purged(n: CsaNumber) -> bool
     ensures { λ r. ⌜ r ≡ isPurged n ⌝ }
@@ -211,14 +164,18 @@ pub fn is_purged(n: CsaNumber) -> bool
     2147483647 <= n.0
 }
 
-fn is_gone(memory: &[u8], i: usize) -> bool
+// Whether row i is to be freed: the number's highest octet tells nearly always that it is not.
+fn is_last(memory: &[u8], i: usize) -> bool
     requires { ⌜ (length (now memory) ≡ memorySize) × (i < rowsMost) ⌝ }
     ensures { λ r. ⌜ r ≡ toFree (rowIn (now (memory .entry)) i) ⌝ }
 {
-    if !rows::is_used(memory, i) {
+    if memory[TOPS_AT + i] != 127 {
         return false;
     }
-    if octets::octet(memory, MARKS_AT + i) != 0 {
+    if memory[LENGTHS_AT + i] == 0 {
+        return false;
+    }
+    if memory[MARKS_AT + i] != 0 {
         return false;
     }
     is_purged(rows::number_of(memory, i))
@@ -228,44 +185,58 @@ fn sweep_row(memory: &mut [u8], i: usize)
     requires { ⌜ (length (now memory) ≡ memorySize) × (i < rowsMost) ⌝ }
     ensures { λ _. ⌜ memoryOf (now (memory .exit)) ≡ withRow (now (memory .entry)) i (sweptRow (rowIn (now (memory .entry)) i)) ⌝ }
 {
-    if is_gone(memory, i) {
-        free_at(memory, i);
+    if is_last(memory, i) {
+        free_at(memory, i)
     }
 }
 
-// Whether the number of one of four rows begins as 2147483647 does: almost always none, and all four are passed by at once.
-fn last_in_four(memory: &[u8], i: usize) -> bool
-    requires { ⌜ (length (now memory) ≡ memorySize) × (i + 4 ≤ rowsMost) ⌝ }
-    ensures { λ r. ⌜ (r ≡ false → SweepsFour i (now (memory .entry)) (now (memory .entry))) ⌝ }
+// i where row i may be one to free, else 255.
+fn last_or_none(length: u8, marks: u8, top: u8, i: u8) -> u8
+    ensures { λ r. ⌜ LastOrNone length marks top i r ⌝ }
 {
-    let at = i * ROW_SIZE + NUMBER_PLACE;
-    let a = memory[at];
-    let b = memory[at + ROW_SIZE];
-    let c = memory[at + 2 * ROW_SIZE];
-    let d = memory[at + 3 * ROW_SIZE];
-    a == 127 || b == 127 || c == 127 || d == 127
+    if length == 0 {
+        return 255;
+    }
+    if marks != 0 {
+        return 255;
+    }
+    if top != 127 {
+        return 255;
+    }
+    i
 }
 
-fn sweep_four(memory: &mut [u8], i: usize)
-    requires { ⌜ (length (now memory) ≡ memorySize) × (i + 4 ≤ rowsMost) ⌝ }
-    ensures { λ _. ⌜ SweepsFour i (now (memory .entry)) (now (memory .exit)) ⌝ }
+// The first row that may be one to free, 255 if there is none: without a way out, so that the compiler takes 16 rows at a time.
+fn first_last(memory: &[u8]) -> u8
+    requires { ⌜ length (now memory) ≡ memorySize ⌝ }
+    ensures { λ r. ⌜ FirstLast (now (memory .entry)) r ⌝ }
 {
-    if last_in_four(memory, i) {
-        sweep_row(memory, i);
-        sweep_row(memory, i + 1);
-        sweep_row(memory, i + 2);
-        sweep_row(memory, i + 3);
+    let mut best: u8 = 255;
+    let mut i: u8 = 0;
+    while i < 64 {
+        let n = i as usize;
+        best = tags::least(
+            best,
+            last_or_none(
+                memory[LENGTHS_AT + n],
+                memory[MARKS_AT + n],
+                memory[TOPS_AT + n],
+                i,
+            ),
+        );
+        i += 1;
     }
+    best
 }
 
 pub fn sweep(memory: &mut [u8])
     requires { ⌜ length (now memory) ≡ memorySize ⌝ }
     ensures { λ _. ⌜ memoryOf (now (memory .exit)) ≡ withRows (swept (rowsIn (now (memory .entry)))) (memoryOf (now (memory .entry))) ⌝ }
 {
-    let mut i: usize = 0;
+    let mut i = first_last(memory) as usize;
     while i < ROWS {
-        sweep_four(memory, i);
-        i += 4;
+        sweep_row(memory, i);
+        i += 1;
     }
 }
 

@@ -1,9 +1,9 @@
 // A summary taken in: a request for what the rows do not have.
 ghost use mathlib.Core.Path.{_≡_};
-ghost use Prim.Native.Nat.{_≤_, _<_};
+ghost use Prim.Native.Nat.{_<_};
 ghost use lib.ListN.{length};
 ghost use Rattle.memory.specs.Layout.{memorySize};
-ghost use Rattle.memory.specs.Search.{entry};
+ghost use Rattle.memory.specs.Search.{entry, FitsKey};
 ghost use Rattle.memory.specs.Lists.{TakesIn};
 use crate::entries;
 use crate::requests;
@@ -18,7 +18,7 @@ pub fn take_in(
     number: CsaNumber,
     missed: u16,
 ) -> u16
-    requires { ⌜ (k < 8) × (((length (now key) ≤ 16) × (length (now originator) ≡ 4)) × (length (now memory) ≡ memorySize)) ⌝ }
+    requires { ⌜ (k < 8) × (FitsKey (now key) (now originator) × (length (now memory) ≡ memorySize)) ⌝ }
     ensures { λ r. ⌜ TakesIn k (entry (now (key .entry)) (now (originator .entry))) number missed (now (memory .entry)) (now (memory .exit)) r ⌝ }
 {
     if entries::is_up_to_date(memory, key, originator, number) {

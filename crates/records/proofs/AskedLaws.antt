@@ -15,7 +15,7 @@ use Rattle.rules.specs.Poll.{requestRecord}
 use Rattle.memory.specs.Layout.{memorySize, listPlace, requestPlace}
 use Rattle.memory.specs.Memory.{requestIn, requestsIn}
 use Rattle.memory.specs.Lists.{roomsIn, noRequest}
-use Rattle.memory.proofs.RowPlaces.{key-short, originator-long}
+use Rattle.memory.proofs.Rooms.{asked-key-short, asked-originator-long}
 use Rattle.memory.proofs.Rooms.{requests-in, rooms-length, rooms-get}
 
 -- the parts of request i of slot k fit a record
@@ -24,7 +24,7 @@ pub request-fits : (s : List ℕ) (k i : ℕ) (key originator : List ℕ) → le
     → (length key ≤ 16) × (length originator ≡ 4)
 unfolding requestIn
 request-fits s k i key originator l h g a b =
-    (rw a (key-short s (requestPlace k i)), rw b (originator-long s (requestPlace k i) (omega arith)))
+    (rw a (asked-key-short s (requestPlace k i)), rw b (asked-originator-long s (requestPlace k i) (omega arith)))
 
 -- ---- the loop
 module _ (s : List ℕ) (k : ℕ) where

@@ -13,26 +13,26 @@ use Rattle.rules.specs.Server.{rowsMost, Entry, Value, Row, free, used, isUsed,
 use Rattle.rules.specs.Rows.{used1, rowsOf}
 use Rattle.rules.specs.Updates.{recordOf}
 use Rattle.rules.specs.Poll.{heldRecord}
-use Rattle.memory.specs.Layout.{memorySize, rowPlace}
-use Rattle.memory.specs.Memory.{entryAt, valueAt, rowIn, rowsIn}
+use Rattle.memory.specs.Layout.{memorySize}
+use Rattle.memory.specs.Memory.{rowEntry, valueAt, rowIn, rowsIn}
 use Rattle.memory.proofs.RowPlaces.{row-get, used-row, free-row, key-short, payload-short, originator-long}
 
 -- the parts of row i fit a record
 pub row-fits : (s : List ℕ) (i : ℕ) (k o p : List ℕ) → length s ≡ memorySize → i < rowsMost
-    → k ≡ entryAt s (rowPlace i) .key → o ≡ entryAt s (rowPlace i) .originator → p ≡ valueAt s (rowPlace i) .payload
+    → k ≡ rowEntry s i .key → o ≡ rowEntry s i .originator → p ≡ valueAt s i .payload
     → (length k ≤ 16) × ((length o ≡ 4) × (length p ≤ 32))
 row-fits s i k o p l h a b c = (
-  rw a (key-short s (rowPlace i)),
-  (rw b (originator-long s (rowPlace i) (omega arith)), rw c (payload-short s (rowPlace i))),
+  rw a (key-short s i),
+  (rw b (originator-long s i l h), rw c (payload-short s i)),
 )
 
 -- ---- one row, behind the records before
 module _ (s : List ℕ) (i : ℕ) (before : List CsaRecord) {u : Bool} (is : u ≡ isUsed (rowIn s i)) where
-  pub row-pushed : (hops : ℕ) (v : CsaRecord) (after : List CsaRecord) → u ≡ true → hops ≡ valueAt s (rowPlace i) .remaining
-      → v ≡ recordOf hops (entryAt s (rowPlace i)) (valueAt s (rowPlace i)) → after ≡ before ++ (v ∷ [])
+  pub row-pushed : (hops : ℕ) (v : CsaRecord) (after : List CsaRecord) → u ≡ true → hops ≡ valueAt s i .remaining
+      → v ≡ recordOf hops (rowEntry s i) (valueAt s i) → after ≡ before ++ (v ∷ [])
       → after ≡ before ++ used1 heldRecord (rowIn s i) []
   row-pushed hops v after t h e f =
-      f ∙ ap (λ (x : CsaRecord). before ++ (x ∷ [])) (e ∙ ap (λ (n : ℕ). recordOf n (entryAt s (rowPlace i)) (valueAt s (rowPlace i))) h)
+      f ∙ ap (λ (x : CsaRecord). before ++ (x ∷ [])) (e ∙ ap (λ (n : ℕ). recordOf n (rowEntry s i) (valueAt s i)) h)
       ∙ ap (λ (r : Row). before ++ used1 heldRecord r []) (sym (used-row s i (sym is ∙ t)))
 
   pub row-passed : u ≡ false → before ≡ before ++ used1 heldRecord (rowIn s i) []

@@ -58,14 +58,12 @@ module _ (rule : UpdateRule) (live : ℕ → Bool) (k : ℕ) (r : CsaRecord) (s 
         ∙ ap (λ (f : Row → Row). rowsAs (λ rows. pick (has (holds (entryOf r)) rows) (change (holds (entryOf r)) f rows) (filled (rowFor live k r) rows)) s)
         (fun-ext (renewed-by live k r)))
 
-    changed-entry : (f : Row → Row) → memoryOf t ≡ rowsAs (change (holds (entry key originator)) f) s → memoryOf t ≡ rowsAs (change (holds (entryOf r)) f) s
-    changed-entry f h = h ∙ ap (λ (e : Entry). rowsAs (change (holds e) f) s) (entry-by r key originator a b)
+module _ (rule : UpdateRule) (live : ℕ → Bool) (k : ℕ) (r : CsaRecord) (s t : List ℕ) where
+  pub rows-equal : rule ≡ Equal → memoryOf t ≡ rowsAs (change (holds (entryOf r)) (unmarked k)) s → memoryOf t ≡ rowsAs (rowsBy (ruleOf rule) live k r) s
+  rows-equal e h = rows-as rule live k r s t Equal e h
 
-    pub rows-equal : rule ≡ Equal → memoryOf t ≡ rowsAs (change (holds (entry key originator)) (unmarked k)) s → memoryOf t ≡ rowsAs (rowsBy (ruleOf rule) live k r) s
-    rows-equal e h = rows-as Equal e (changed-entry (unmarked k) h)
-
-    pub rows-older : rule ≡ Older → memoryOf t ≡ rowsAs (change (holds (entry key originator)) (waitsAgain k)) s → memoryOf t ≡ rowsAs (rowsBy (ruleOf rule) live k r) s
-    rows-older e h = rows-as Older e (changed-entry (waitsAgain k) h)
+  pub rows-older : rule ≡ Older → memoryOf t ≡ rowsAs (change (holds (entryOf r)) (waitsAgain k)) s → memoryOf t ≡ rowsAs (rowsBy (ruleOf rule) live k r) s
+  rows-older e h = rows-as rule live k r s t Older e h
 
 module _ (rule : UpdateRule) (live : ℕ → Bool) (k : ℕ) (r : CsaRecord) (s : List ℕ) where
   pub rows-null : rule ≡ Null → memoryOf s ≡ rowsAs (rowsBy (ruleOf rule) live k r) s

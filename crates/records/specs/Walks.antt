@@ -12,8 +12,7 @@ use Rattle.protocol.specs.Messages.{CsaRecord}
 use Rattle.rules.specs.Requests.{Wanted, allTakenIn}
 use Rattle.rules.specs.Updates as rules
 use Rattle.rules.specs.Updates.{hopsMost, recordOf, nullRecord, Updated, allUpdated}
-use Rattle.memory.specs.Layout.{rowPlace}
-use Rattle.memory.specs.Memory.{entryAt, valueAt, rowsIn, memoryOf, withRows, withRequests, requestsOf}
+use Rattle.memory.specs.Memory.{rowEntry, valueAt, rowsIn, memoryOf, withRows, withRequests, requestsOf}
 use Rattle.memory.specs.Search.{FitsRow}
 use Rattle.memory.specs.Lists.{wantedNow}
 use Rattle.wire.specs.declared.record.Cursor.{Cursor}
@@ -59,8 +58,8 @@ TakesOne k v missed before after r = TakesAll k (v ∷ []) missed before after r
 -- the answer to a record by row i: as it is held, unless a greater number is asked for
 abbrev pub answerBy : CsaRecord → List ℕ → ℕ → CsaRecord
 answerBy r s i =
-    let v = valueAt s (rowPlace i) in
-    pick (newer (r .number) (v .number)) (nullRecord r) (recordOf hopsMost (entryAt s (rowPlace i)) v)
+    let v = valueAt s i in
+    pick (newer (r .number) (v .number)) (nullRecord r) (recordOf hopsMost (rowEntry s i) v)
 
 -- ---- update records
 -- the rule of each case

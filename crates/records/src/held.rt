@@ -6,8 +6,8 @@ ghost use Rattle.rules.specs.Server.{rowsMost};
 ghost use Rattle.rules.specs.Rows.{used1, rowsOf};
 ghost use Rattle.rules.specs.Updates as rules;
 ghost use Rattle.rules.specs.Poll.{heldRecord};
-ghost use Rattle.memory.specs.Layout.{memorySize, rowPlace};
-ghost use Rattle.memory.specs.Memory.{entryAt, valueAt, rowIn, rowsIn};
+ghost use Rattle.memory.specs.Layout.{memorySize};
+ghost use Rattle.memory.specs.Memory.{rowEntry, valueAt, rowIn, rowsIn};
 ghost use Rattle.memory.specs.Marks.{picksOf};
 ghost use Rattle.writer.specs.Write as writer;
 ghost use mathlib.Core.List.{[], _++_};
@@ -20,7 +20,7 @@ use writer::write::Records;
 // What row i holds, with this hop count.
 pub fn row_value(memory: &[u8], i: usize, hops: u16) -> CsaValue
     requires { ⌜ (length (now memory) ≡ memorySize) × (i < rowsMost) ⌝ }
-    ensures { λ r. ⌜ writer.recordOf r ≡ rules.recordOf hops (entryAt (now (memory .entry)) (rowPlace i)) (valueAt (now (memory .entry)) (rowPlace i)) ⌝ }
+    ensures { λ r. ⌜ writer.recordOf r ≡ rules.recordOf hops (rowEntry (now (memory .entry)) i) (valueAt (now (memory .entry)) i) ⌝ }
 {
     let number = rows::number_of(memory, i);
     list::value(

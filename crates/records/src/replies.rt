@@ -10,7 +10,7 @@ ghost use Rattle.memory.specs.Layout.{memorySize};
 ghost use Rattle.memory.specs.Memory.{memoryOf};
 ghost use Rattle.memory.specs.Entries.{rowsAs};
 ghost use Rattle.wire.specs.Views.{csaRecordOf, recordsOf};
-ghost use Rattle.records.specs.Walks.{Walks};
+ghost use Rattle.records.specs.Walks.{Fits, Walks};
 use memory::entries;
 use wire::record;
 use wire::record::Csa;
@@ -18,7 +18,7 @@ use wire::record::Cursor;
 use wire::record::NextRecord;
 
 fn reply_one(memory: &mut [u8], k: usize, p: &[u8], v: Csa)
-    requires { ⌜ (length (now memory) ≡ memorySize) × (k < 8) ⌝ }
+    requires { ⌜ (length (now memory) ≡ memorySize) × ((k < 8) × Fits (csaRecordOf (now p) v)) ⌝ }
     ensures { λ _. ⌜ memoryOf (now (memory .exit)) ≡ rowsAs (change (holds (entryOf (csaRecordOf (now (p .entry)) v))) (replied k (v .number))) (now (memory .entry)) ⌝ }
 {
     entries::reply_record(

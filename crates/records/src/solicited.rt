@@ -10,6 +10,7 @@ ghost use Rattle.writer.specs.Write as writer;
 ghost use Rattle.records.specs.Walks.{Fits, Walks, answerBy};
 use crate::held;
 use crate::list;
+use crate::standing;
 use memory::rows;
 use memory::rows::Found;
 use wire::record;
@@ -50,7 +51,7 @@ fn solicit_one(memory: &[u8], p: &[u8], v: Csa) -> CsaValue
     requires { ⌜ (length (now memory) ≡ memorySize) × Fits (csaRecordOf (now p) v) ⌝ }
     ensures { λ r. ⌜ writer.recordOf r ≡ rules.solicited (rowsIn (now (memory .entry))) (csaRecordOf (now (p .entry)) v) ⌝ }
 {
-    match rows::find(memory, record::key(p, v), record::originator(p, v)) {
+    match standing::row_of(memory, p, v) {
         Found::At(i) => solicit_row(memory, i, p, v),
         Found::Nothing => null_value(p, v),
     }

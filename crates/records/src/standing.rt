@@ -4,13 +4,15 @@ ghost use Rattle.laws.specs.Choice.{pick};
 ghost use Rattle.protocol.specs.Numbers.{newer};
 ghost use lib.ListN.{length};
 ghost use Rattle.laws.specs.Tables.{has};
-ghost use Rattle.rules.specs.Server.{isFree};
+ghost use Rattle.rules.specs.Server.{isFree, holds};
+ghost use Rattle.rules.specs.Requests.{entryOf};
+ghost use Rattle.memory.specs.Search.{firstFrom};
 ghost use Rattle.rules.specs.Rows as rules;
 ghost use Rattle.rules.specs.Updates.{purgeAbsent, stored, full, equal, older, updateRule};
 ghost use Rattle.memory.specs.Layout.{memorySize};
 ghost use Rattle.memory.specs.Memory.{rowsIn};
 ghost use Rattle.wire.specs.Views.{csaRecordOf};
-ghost use Rattle.records.specs.Walks.{ruleOf};
+ghost use Rattle.records.specs.Walks.{ruleOf, Fits};
 use memory::rows;
 use memory::rows::Found;
 use memory::store;
@@ -65,15 +67,23 @@ fn held_rule(number: CsaNumber, held: CsaNumber) -> UpdateRule
     UpdateRule::Equal
 }
 
-// The rule that an update record takes, by the row of its entry.
-pub fn update_rule(memory: &[u8], p: &[u8], v: Csa) -> UpdateRule
-    requires { ⌜ length (now memory) ≡ memorySize ⌝ }
+// The row of a record's entry.
+pub fn row_of(memory: &[u8], p: &[u8], v: Csa) -> Found
+    requires { ⌜ (length (now memory) ≡ memorySize) × Fits (csaRecordOf (now p) v) ⌝ }
+    ensures { λ r. ⌜ r ≡ firstFrom (holds (entryOf (csaRecordOf (now (p .entry)) v))) 0 (rowsIn (now (memory .entry))) ⌝ }
+{
+    rows::find(memory, record::key(p, v), record::originator(p, v))
+}
+
+// The rule that an update record takes, by the row that was found for its entry.
+pub fn update_rule(memory: &[u8], p: &[u8], v: Csa, found: Found) -> UpdateRule
+    requires { ⌜ (length (now memory) ≡ memorySize) × (found ≡ firstFrom (holds (entryOf (csaRecordOf (now p) v))) 0 (rowsIn (now memory))) ⌝ }
     ensures { λ r. ⌜ ruleOf r ≡ updateRule (csaRecordOf (now (p .entry)) v) (rowsIn (now (memory .entry))) ⌝ }
 {
     if v.null {
         return UpdateRule::Null;
     }
-    match rows::find(memory, record::key(p, v), record::originator(p, v)) {
+    match found {
         Found::At(i) => held_rule(v.number, rows::number_of(memory, i)),
         Found::Nothing => absent_rule(memory, v.number),
     }

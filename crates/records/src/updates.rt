@@ -5,9 +5,12 @@ ghost use mathlib.Core.List.{[], _∷_, _++_};
 ghost use Prim.Native.Nat.{_+_, _≤_, _<_};
 ghost use lib.ListN.{length};
 ghost use Rattle.laws.specs.Choice.{pick};
+ghost use Rattle.rules.specs.Server.{holds};
+ghost use Rattle.rules.specs.Requests.{entryOf};
 ghost use Rattle.rules.specs.Updates as rules;
 ghost use Rattle.memory.specs.Layout.{memorySize};
-ghost use Rattle.memory.specs.Memory.{isMarked, memoryOf, withRequests, requestsOf};
+ghost use Rattle.memory.specs.Memory.{isMarked, rowsIn, memoryOf, withRequests, requestsOf};
+ghost use Rattle.memory.specs.Search.{firstFrom};
 ghost use Rattle.memory.specs.Entries.{rowsAs};
 ghost use Rattle.wire.specs.Views.{csaRecordOf, recordsOf};
 ghost use Rattle.writer.specs.Write as writer;
@@ -17,6 +20,7 @@ use crate::standing;
 use crate::standing::UpdateRule;
 use memory::entries;
 use memory::requests;
+use memory::rows::Found;
 use protocol::CsaNumber;
 use wire::record;
 use wire::record::Csa;
@@ -26,8 +30,8 @@ use writer::write::CsaValue;
 use writer::write::Records;
 
 // What a record from slot k does to the rows.
-fn rows_by(memory: &mut [u8], rule: UpdateRule, live: u8, k: usize, p: &[u8], v: Csa)
-    requires { ⌜ (length (now memory) ≡ memorySize) × ((k < 8) × Fits (csaRecordOf (now p) v)) ⌝ }
+fn rows_by(memory: &mut [u8], rule: UpdateRule, found: Found, live: u8, k: usize, p: &[u8], v: Csa)
+    requires { ⌜ ((length (now memory) ≡ memorySize) × ((k < 8) × Fits (csaRecordOf (now p) v))) × (found ≡ firstFrom (holds (entryOf (csaRecordOf (now p) v))) 0 (rowsIn (now memory))) ⌝ }
     ensures { λ _. ⌜ memoryOf (now (memory .exit)) ≡ rowsAs (rules.rowsBy (ruleOf rule) (isMarked live) k (csaRecordOf (now (p .entry)) v)) (now (memory .entry)) ⌝ }
 {
     match rule {
@@ -36,6 +40,7 @@ fn rows_by(memory: &mut [u8], rule: UpdateRule, live: u8, k: usize, p: &[u8], v:
         UpdateRule::Full => {}
         UpdateRule::Stored => entries::store_record(
             memory,
+            found,
             live,
             k,
             record::key(p, v),
@@ -44,12 +49,8 @@ fn rows_by(memory: &mut [u8], rule: UpdateRule, live: u8, k: usize, p: &[u8], v:
             record::payload(p, v),
             v.hops,
         ),
-        UpdateRule::Equal => {
-            entries::equal_record(memory, k, record::key(p, v), record::originator(p, v))
-        }
-        UpdateRule::Older => {
-            entries::older_record(memory, k, record::key(p, v), record::originator(p, v))
-        }
+        UpdateRule::Equal => entries::equal_record(memory, k, found),
+        UpdateRule::Older => entries::older_record(memory, k, found),
     }
 }
 
@@ -127,8 +128,9 @@ fn update_one(memory: &mut [u8], live: u8, k: usize, p: &[u8], v: Csa, r: Record
     requires { ⌜ (length (now memory) ≡ memorySize) × ((k < 8) × ((r .count < 4) × Fits (csaRecordOf (now p) v))) ⌝ }
     ensures { λ x. ⌜ Updates (isMarked live) k (csaRecordOf (now (p .entry)) v ∷ []) r (now (memory .entry)) (now (memory .exit)) x ⌝ }
 {
-    let rule = standing::update_rule(memory, p, v);
-    rows_by(memory, rule, live, k, p, v);
+    let found = standing::row_of(memory, p, v);
+    let rule = standing::update_rule(memory, p, v, found);
+    rows_by(memory, rule, found, live, k, p, v);
     requests_by(memory, rule, k, p, v);
     reply_by(rule, r, p, v)
 }

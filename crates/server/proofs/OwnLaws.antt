@@ -22,13 +22,13 @@ use Rattle.rules.specs.Refusals.{ownKeyGood, ownPayloadGood, ownEntry, rowSpent
 use Rattle.rules.specs.Events as events
 use Rattle.rules.specs.Events.{Event, liveIn, codeOf, acted, sentBy}
 use Rattle.rules.proofs.CodeTold.{set-told}
-use Rattle.memory.specs.Layout.{rowPlace}
 use Rattle.memory.specs.Memory.{valueAt, rowIn, rowsIn, Memory, memoryOf, withRows}
-use Rattle.memory.specs.Search.{FitsRow, firstFrom}
+use Rattle.memory.specs.Search.{FitsKey, FitsRow, firstFrom}
 use Rattle.memory.specs.Entries.{rowsAs}
 use Rattle.memory.specs.declared.rows.Found.the-variants.{At, Nothing}
 use Rattle.memory.proofs.RowPlaces.{row-get, usedRow, row-case}
-use Rattle.memory.proofs.SearchLaws.{find-first, find-none}
+use Rattle.laws.proofs.Cells.{find-none}
+use Rattle.memory.proofs.SearchLaws.{find-first}
 use Rattle.memory.proofs.RowInsert.{found-below}
 use Rattle.memory.proofs.RowLaws.{found-first, found-row, has-none}
 use Rattle.records.proofs.MemoryLaws.{rows-are}
@@ -50,7 +50,7 @@ no-length [] = refl
 no-length (x ∷ l) = ne-eqb (suc (length l)) 0 (λ q. omega arith)
 
 -- with the number and the payload that the row holds
-pub own-used : (m : List ℕ) (i : ℕ) (n : CsaNumber) (p : List ℕ) (a b c : Bool) → n ≡ valueAt m (rowPlace i) .number → p ≡ valueAt m (rowPlace i) .payload
+pub own-used : (m : List ℕ) (i : ℕ) (n : CsaNumber) (p : List ℕ) (a b c : Bool) → n ≡ valueAt m i .number → p ≡ valueAt m i .payload
     → a ≡ spent n → b ≡ isPurged n → c ≡ eqb (length p) 0 → isUsed (rowIn m i) ≡ true
     → record { held = true; spent = a; purged = b; empty = c } ≡ ownOf (rowIn m i)
 own-used m i n p a b c number payload f g h =
@@ -66,7 +66,7 @@ module _ (e : Entry) (m : List ℕ) where
       w (ap isUsed there) ∙ ap ownOf (there ∙ sym row)
 
   pub own-none : firstFrom (holds e) 0 (rowsIn m) ≡ Nothing → record { held = false; spent = false; purged = false; empty = true } ≡ ownOf (entryRow e (rowsIn m))
-  own-none none = sym (ap ownOf (find-none (holds e) (rowsIn m) (has-none (holds e) (rowsIn m) none)))
+  own-none none = sym (ap ownOf (find-none rules.free (holds e) (rowsIn m) (has-none (holds e) (rowsIn m) none)))
 
 -- ---- the size of a key, of a payload
 pub none-good : (l : List ℕ) (most : ℕ) → length l ≡ 0 → false ≡ (ltb 0 (length l) && leb (length l) most)
@@ -159,6 +159,23 @@ set-fits s key p o c t n =
       originator-fits = n;
       payload-fits = leb-true (length p) 32 (q .1);
     }
+
+-- the key of a taken change
+pub key-room : (key id : List ℕ) → ownKeyGood key ≡ true → length id ≡ 4 → FitsKey key id
+key-room key id g n =
+    let k = and-true (ltb 0 (length key)) (leb (length key) 16) g in
+    ((omega (arith, ltb-true 0 (length key) (k .0)), leb-true (length key) 16 (k .1)), n)
+
+key-told : (b : Bool) (key : List ℕ) (code : ℕ) → ownKeyGood key ≡ b → (ownKeyGood key ≡ false → 17 ≡ code) → code ≡ 0 → ownKeyGood key ≡ true
+key-told true key code e f z = e
+key-told false key code e f z = absurd (omega (arith, f e, z))
+
+module _ (s : rules.Server) (key : List ℕ) (o : Outcome) (t : o ≡ Taken) (n : length (s .settings .id) ≡ 4) where
+  pub withdraw-fits : codeNumber o ≡ withdrawCode s key → FitsKey key (s .settings .id)
+  withdraw-fits c = key-room key (s .settings .id) (key-told (ownKeyGood key) key (withdrawCode s key) refl (withdraw-key s key) (sym c ∙ ap codeNumber t)) n
+
+  pub purge-fits : codeNumber o ≡ purgeCode s key → FitsKey key (s .settings .id)
+  purge-fits c = key-room key (s .settings .id) (key-told (ownKeyGood key) key (purgeCode s key) refl (purge-key s key) (sym c ∙ ap codeNumber t)) n
 
 -- ---- a taken change
 -- the rows are changed, then swept

@@ -9,7 +9,7 @@ ghost use Rattle.rules.specs.Refusals.{ownEntry};
 ghost use Rattle.rules.specs.Events.{liveIn};
 ghost use Rattle.memory.specs.Memory.{memoryOf};
 ghost use Rattle.memory.specs.Entries.{rowsAs};
-ghost use Rattle.memory.specs.Search.{FitsRow};
+ghost use Rattle.memory.specs.Search.{FitsKey, FitsRow};
 ghost use Rattle.slots.specs.State.{settingsOf};
 ghost use Prim.Native.Nat.{ℕ, _<_};
 ghost use lib.ListN.{length};
@@ -65,7 +65,7 @@ fn own_at(memory: &[u8], i: usize) -> Own
 }
 
 fn own_of(memory: &[u8], key: &[u8], id: &[u8]) -> Own
-    requires { ⌜ length (now memory) ≡ memorySize ⌝ }
+    requires { ⌜ (length (now memory) ≡ memorySize) × FitsKey (now key) (now id) ⌝ }
     ensures { λ r. ⌜ r ≡ ownOf (entryRow (entry (now (key .entry)) (now (id .entry))) (rowsIn (now (memory .entry)))) ⌝ }
 {
     match rows::find(memory, key, id) {
@@ -167,7 +167,7 @@ fn withdraw_code(s: Server, memory: &[u8], key: &[u8]) -> Outcome
 }
 
 fn withdraw_taken(s: Server, slots: &[usize], memory: &mut [u8], key: &[u8])
-    requires { ⌜ (length (now slots) ≡ tableSize) × (length (now memory) ≡ memorySize) ⌝ }
+    requires { ⌜ ((length (now slots) ≡ tableSize) × (length (now memory) ≡ memorySize)) × FitsKey (now key) (s .settings .id) ⌝ }
     ensures { λ _. ⌜ memoryOf (now (memory .exit)) ≡ rowsAs (λ rows. swept (withdrawRows (liveIn (slotsOf (now (slots .entry)) (now (memory .entry)))) (ownEntry (settingsOf (s .settings)) (now (key .entry))) rows)) (now (memory .entry)) ⌝ }
 {
     let settings = s.settings;
@@ -210,7 +210,7 @@ fn purge_code(s: Server, memory: &[u8], key: &[u8]) -> Outcome
 }
 
 fn purge_taken(s: Server, slots: &[usize], memory: &mut [u8], key: &[u8])
-    requires { ⌜ (length (now slots) ≡ tableSize) × (length (now memory) ≡ memorySize) ⌝ }
+    requires { ⌜ ((length (now slots) ≡ tableSize) × (length (now memory) ≡ memorySize)) × FitsKey (now key) (s .settings .id) ⌝ }
     ensures { λ _. ⌜ memoryOf (now (memory .exit)) ≡ rowsAs (λ rows. swept (purgeRows (liveIn (slotsOf (now (slots .entry)) (now (memory .entry)))) (ownEntry (settingsOf (s .settings)) (now (key .entry))) rows)) (now (memory .entry)) ⌝ }
 {
     let settings = s.settings;

@@ -14,7 +14,7 @@ use Rattle.protocol.specs.declared.Kind.the-variants.{Ca, CsuRequest, CsuReply,
 use Rattle.protocol.specs.declared.Checked.{Checked}
 use Rattle.protocol.specs.declared.Checked.the-variants.{Fine, Breaks}
 use Rattle.protocol.specs.Sizes.{idLength}
-use Rattle.protocol.specs.Checks.{rule, field, andThen, firstBreak, isHelloKind, commonAt, beforeChecks, plainChecks, lengthChecks, idChecks, headCheck, recordChecks, elementCheck, elementSize, elementsCheck, countAt, elementsAt, afterHead, mandatoryCheck}
+use Rattle.protocol.specs.Checks.{rule, field, andThen, firstBreak, isHelloKind, commonAt, beforeChecks, plainChecks, lengthChecks, idChecks, commonChecks, headCheck, recordChecks, elementCheck, elementSize, elementsCheck, countAt, elementsAt, afterHead, mandatoryCheck}
 
 -- n octets fit behind `at`
 pub shifted : (at n size : ℕ) → at ≤ size → leb n (size - at) ≡ leb (at + n) size
@@ -66,6 +66,14 @@ module _ (k : Kind) (p : List ℕ) where
       (joined (plainChecks p at) (lengthChecks idLength k p at ++ idChecks idLength p at) ed
       (joined (lengthChecks idLength k p at) (idChecks idLength p at) ee ef ex) ey) ez
       ∙ ap (λ (n : ℕ). firstBreak (beforeChecks k p ++ (plainChecks p n ++ (lengthChecks idLength k p n ++ idChecks idLength p n)))) a
+
+  -- the head where the common part is fine
+  pub head-before : {at : ℕ} {b : Checked} → at ≡ commonAt k → b ≡ firstBreak (beforeChecks k p) → firstBreak (commonChecks idLength k p at) ≡ Fine
+      → b ≡ headCheck idLength k p
+  unfolding headCheck
+  head-before {at} {b} a e f =
+      joined (beforeChecks k p) (commonChecks idLength k p at) e (sym f) (and-fine b)
+      ∙ ap (λ (n : ℕ). firstBreak (beforeChecks k p ++ commonChecks idLength k p n)) a
 
   -- ---- records and receivers
   pub of-record : (at : ℕ) → isHelloKind k ≡ false → firstBreak (recordChecks idLength k p at) ≡ elementCheck idLength k p at

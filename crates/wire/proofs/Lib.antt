@@ -1,3 +1,4 @@
 pub mod Checking
+pub mod FineLaws
 pub mod Readings
 pub mod Records

@@ -1,11 +1,12 @@
 // The rules on the fields behind the fixed part, in packet order.
 ghost use mathlib.Core.Path.{_≡_};
-ghost use mathlib.Core.Bool.{not, _||_};
 ghost use Prim.Native.Nat.{_+_, _≤_};
 ghost use lib.ListN.{length};
 ghost use lib.Dec.{leb};
 ghost use Rattle.protocol.specs.Sizes.{idLength};
 ghost use Rattle.protocol.specs.Checks as definition;
+use crate::fine;
+use crate::values;
 use protocol::Checked;
 use protocol::Kind;
 
@@ -45,18 +46,6 @@ fn and_then(a: Checked, b: Checked) -> Checked
     }
 }
 
-fn is_request(k: Kind) -> bool
-    ensures { λ r. ⌜ r ≡ definition.isRequestKind k ⌝ }
-{
-    match k {
-        Kind::Ca => false,
-        Kind::CsuRequest => true,
-        Kind::CsuReply => false,
-        Kind::Csus => false,
-        Kind::Hello => false,
-    }
-}
-
 // Where the common part starts.
 pub fn common_at(k: Kind) -> usize
     ensures { λ r. ⌜ (r ≡ definition.commonAt k) × (r ≤ 16) ⌝ }
@@ -67,18 +56,6 @@ pub fn common_at(k: Kind) -> usize
         Kind::CsuReply => 8,
         Kind::Csus => 8,
         Kind::Hello => 16,
-    }
-}
-
-fn count_most(k: Kind) -> u16
-    ensures { λ r. ⌜ r ≡ definition.countMost k ⌝ }
-{
-    match k {
-        Kind::Ca => 4,
-        Kind::CsuRequest => 4,
-        Kind::CsuReply => 4,
-        Kind::Csus => 4,
-        Kind::Hello => 8,
     }
 }
 
@@ -116,21 +93,6 @@ fn plain_check(p: &[u8], c: usize) -> Checked
     and_then(protocol, and_then(group, and_then(unused, flags)))
 }
 
-fn receiver_length_good(k: Kind, n: u8) -> bool
-    ensures { λ r. ⌜ r ≡ definition.receiverLengthGood idLength k n ⌝ }
-{
-    if n == 4 {
-        return true;
-    }
-    match k {
-        Kind::Ca => false,
-        Kind::CsuRequest => false,
-        Kind::CsuReply => false,
-        Kind::Csus => false,
-        Kind::Hello => n == 0,
-    }
-}
-
 // Sender length, receiver length and number of records.
 fn length_check(k: Kind, p: &[u8], c: usize) -> Checked
     requires { ⌜ c ≤ 16 ⌝ }
@@ -141,9 +103,14 @@ fn length_check(k: Kind, p: &[u8], c: usize) -> Checked
         p,
         c + 9,
         1,
-        receiver_length_good(k, octets::octet(p, c + 9)),
+        values::receiver_length_good(k, octets::octet(p, c + 9)),
     );
-    let count = field(p, c + 10, 2, octets::field2(p, c + 10) <= count_most(k));
+    let count = field(
+        p,
+        c + 10,
+        2,
+        octets::field2(p, c + 10) <= values::count_most(k),
+    );
     and_then(sender, and_then(receiver, count))
 }
 
@@ -162,43 +129,13 @@ pub fn head_check(k: Kind, p: &[u8]) -> Checked
 {
     let c = common_at(k);
     let before = before_check(k, p);
+    if fine::head_fine(k, p, c) {
+        return before;
+    }
     let plain = plain_check(p, c);
     let lengths = length_check(k, p, c);
     let ids = id_check(p, c);
     and_then(before, and_then(plain, and_then(lengths, ids)))
-}
-
-fn key_length_good(k: Kind, key: usize, size: usize, len: usize) -> bool
-    ensures { λ r. ⌜ r ≡ definition.keyLengthGood k key size len ⌝ }
-{
-    if key < 1 {
-        return false;
-    }
-    if 16 < key {
-        return false;
-    }
-    if len == size {
-        return true;
-    }
-    if is_request(k) {
-        return size <= len;
-    }
-    false
-}
-
-fn payload_good(null: bool, bits: u32, n: usize) -> bool
-    ensures { λ r. ⌜ r ≡ definition.payloadGood null bits n ⌝ }
-{
-    if 32 < n {
-        return false;
-    }
-    if n == 0 {
-        return true;
-    }
-    if null {
-        return false;
-    }
-    bits != 2147483647
 }
 
 // The N bit of the record at r.
@@ -242,7 +179,7 @@ fn record_length_check(k: Kind, p: &[u8], r: usize) -> Checked
         p,
         r + 4,
         1,
-        key_length_good(k, key, summary_size(p, r), len),
+        values::key_length_good(k, key, summary_size(p, r), len),
     );
     let originator_length = field(p, r + 5, 1, octets::octet(p, r + 5) == 4);
     and_then(
@@ -259,7 +196,7 @@ fn record_content_check(k: Kind, p: &[u8], r: usize) -> Checked
     let bits = octets::field4(p, r + 8);
     let key = octets::octet(p, r + 4) as usize;
     let size = payload_size(p, r);
-    let n = field(p, r + 6, 2, n_good(k, null));
+    let n = field(p, r + 6, 2, values::n_good(k, null));
     let number = field(p, r + 8, 4, bits != 2147483648);
     let key_inside = field(p, r + 12, key, true);
     let originator = field(p, r + 12 + key, 4, true);
@@ -267,7 +204,7 @@ fn record_content_check(k: Kind, p: &[u8], r: usize) -> Checked
         p,
         r + summary_size(p, r),
         size,
-        payload_good(null, bits, size),
+        values::payload_good(null, bits, size),
     );
     and_then(
         n,
@@ -275,23 +212,13 @@ fn record_content_check(k: Kind, p: &[u8], r: usize) -> Checked
     )
 }
 
-// N is right in a CSU Request only.
-fn n_good(k: Kind, null: bool) -> bool
-    ensures { λ r. ⌜ r ≡ (definition.isRequestKind k || not null) ⌝ }
-{
-    match k {
-        Kind::Ca => !null,
-        Kind::CsuRequest => true,
-        Kind::CsuReply => !null,
-        Kind::Csus => !null,
-        Kind::Hello => !null,
-    }
-}
-
 fn record_check(k: Kind, p: &[u8], r: usize) -> Checked
     requires { ⌜ r ≤ 4294967296 ⌝ }
     ensures { λ c. ⌜ c ≡ definition.firstBreak (definition.recordChecks idLength k (now (p .entry)) r) ⌝ }
 {
+    if fine::record_fine(k, p, r) {
+        return Checked::Fine;
+    }
     and_then(record_length_check(k, p, r), record_content_check(k, p, r))
 }
 

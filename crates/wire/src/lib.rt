@@ -1,4 +1,6 @@
-// SCSP packets: read where they lie, and written into a lent slice.
+// SCSP packets, read where they lie.
 mod check;
+mod fine;
 pub mod read;
 pub mod record;
+mod values;

@@ -11,7 +11,7 @@ number-of-requires : tie.Need-number-of-requires
 number-of-requires c κs =
     let a = c .before .before .before .before .before .before .before .args in
     let i = c .before .i .given in
-    (c .before .before .before .before .before .before .before .pre, found-below (holds (entry (a .key .now) (a .originator .now))) (a .memory .now) (i .0 .0) (sym (c .before .before .before .find .ensures) ∙ i .1))
+    (c .before .before .before .before .before .before .before .pre .0, found-below (holds (entry (a .key .now) (a .originator .now))) (a .memory .now) (i .0 .0) (sym (c .before .before .before .find .ensures) ∙ i .1))
 
 returns : tie.Need-returns
 returns c =

@@ -1,31 +1,28 @@
+use Rattle.memory.proofs.EntryLaws.{found-index, found-marked, found-absent}
 use Rattle.rules.specs.Updates.{waitsAgain}
-use Rattle.memory.proofs.EntryLaws.{entry-marked, entry-absent, found-kept}
-use Rattle.memory.proofs.RowInsert.{found-below}
-use Rattle.memory.specs.Search.{entry}
-use Rattle.rules.specs.Server.{holds}
-use mathlib.Core.Path.{refl, sym, _∙_}
 use borrow.Author.Needs.{needs}
 use Rattle.memory.proofs.entries.older_record.Statement.{statement}
 use Rattle.memory.proofs.entries.older_record.Tie as tie
 
-owe-requires : tie.Need-owe-requires
-owe-requires c κs = let a = c .before .before .before .before .before .before .before .before .before .args in let i = c .before .before .i .given in let h = found-below (holds (entry (a .key .now) (a .originator .now))) (a .memory .now) (i .0 .0) (sym (c .before .before .before .before .find .ensures) ∙ i .1) in (c .before .before .before .before .before .before .before .before .before .pre .0, (h, c .before .before .before .before .before .before .before .before .before .pre .1))
+mark-again-requires : tie.Need-mark-again-requires
+mark-again-requires c κs =
+    let a = c .before .before .before .before .before .args in
+    let p = c .before .before .before .before .before .pre in
+    let i = c .before .before .found .given in
+    (p .0 .0, (found-index (a .found) (i .0 .0) (p .1) (i .1), p .0 .1))
 
 returns : tie.Need-returns
-returns c = let a = c .before .before .before .before .before .before .before .before .before .before .before .before .args in let i = c .before .before .before .before .before .i .given in (entry-marked (entry (a .key .now) (a .originator .now)) (a .memory .now) (i .0 .0) (sym (c .before .before .before .before .before .before .before .find .ensures) ∙ i .1) (waitsAgain (a .k)) (c .before .before .owe .last .0) (c .before .before .owe .ensures .0), found-kept (entry (a .key .now) (a .originator .now)) (a .memory .now) (i .0 .0) (sym (c .before .before .before .before .before .before .before .find .ensures) ∙ i .1) (c .before .before .owe .last .0))
+returns c =
+    let a = c .before .before .before .before .before .before .before .before .args in
+    let i = c .before .before .before .before .before .found .given in
+    found-marked (a .found) (a .memory .now) (waitsAgain (a .k)) (i .0 .0) (c .before .before .mark-again .last .0) (i .1) (c .before .before .mark-again .ensures)
 
 returns-2 : tie.Need-returns-2
-returns-2 c = let a = c .before .before .before .before .before .before .before .args in (entry-absent (entry (a .key .now) (a .originator .now)) (a .memory .now) (sym (c .before .before .find .ensures) ∙ c .enum-told .given .1) (waitsAgain (a .k)), λ h. refl)
+returns-2 c =
+    let a = c .before .before .before .args in
+    found-absent (a .found) (a .memory .now) (waitsAgain (a .k)) (c .enum-told .given .1)
 
 pub older-record-spec : {M : Type 1} → statement M
 older-record-spec =
     tie.close
-    (tie.spec
-    (λ c κs. search needs)
-    (λ c. search needs)
-    owe-requires
-    (λ c. search needs)
-    (λ c. search needs)
-    returns
-    (λ c. search needs)
-    returns-2)
+    (tie.spec (λ c. search needs) mark-again-requires (λ c. search needs) (λ c. search needs) returns returns-2)

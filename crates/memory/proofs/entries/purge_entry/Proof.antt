@@ -10,7 +10,7 @@ use Rattle.memory.proofs.entries.purge_entry.Statement.{statement}
 use Rattle.memory.proofs.entries.purge_entry.Tie as tie
 
 purge-row-requires : tie.Need-purge-row-requires
-purge-row-requires c κs = let a = c .before .before .before .before .before .before .before .before .before .args in let i = c .before .before .i .given in let h = found-below (holds (entry (a .key .now) (a .originator .now))) (a .memory .now) (i .0 .0) (sym (c .before .before .before .before .find .ensures) ∙ i .1) in (c .before .before .before .before .before .before .before .before .before .pre, h)
+purge-row-requires c κs = let a = c .before .before .before .before .before .before .before .before .before .args in let i = c .before .before .i .given in let h = found-below (holds (entry (a .key .now) (a .originator .now))) (a .memory .now) (i .0 .0) (sym (c .before .before .before .before .find .ensures) ∙ i .1) in (c .before .before .before .before .before .before .before .before .before .pre .0, h)
 
 returns : tie.Need-returns
 returns c = let a = c .before .before .before .before .before .before .before .before .before .before .before .before .args in let i = c .before .before .before .before .before .i .given in (entry-changed (entry (a .key .now) (a .originator .now)) (a .memory .now) (i .0 .0) (sym (c .before .before .before .before .before .before .before .find .ensures) ∙ i .1) (purgedRow (isMarked (a .live))) (c .before .before .purge-row .last .0) (c .before .before .purge-row .ensures), found-kept (entry (a .key .now) (a .originator .now)) (a .memory .now) (i .0 .0) (sym (c .before .before .before .before .before .before .before .find .ensures) ∙ i .1) (c .before .before .purge-row .last .0))

@@ -1,5 +1,5 @@
-use Rattle.memory.proofs.EntryLaws.{entry-held, entry-new}
 use Rattle.memory.proofs.RowInsert.{found-below}
+use Rattle.memory.proofs.EntryLaws.{entry-held, entry-new}
 use Rattle.memory.specs.Search.{entry, revalued}
 use Rattle.memory.specs.Memory.{isMarked}
 use Rattle.rules.specs.Updates.{value}
@@ -10,19 +10,31 @@ use Rattle.memory.proofs.entries.put_entry.Statement.{statement}
 use Rattle.memory.proofs.entries.put_entry.Tie as tie
 
 put-value-requires : tie.Need-put-value-requires
-put-value-requires c κs = let a = c .before .before .before .before .before .before .before .before .before .before .args in let i = c .before .before .i .given in (c .before .before .before .before .before .before .before .before .before .before .pre .0, (found-below (holds (entry (a .key .now) (a .originator .now))) (a .memory .now) (i .0 .0) (sym (c .before .before .before .before .find .ensures) ∙ i .1), c .before .before .before .before .before .before .before .before .before .before .pre .1 .payload-fits))
+put-value-requires c κs =
+    let a = c .before .before .before .before .before .before .before .before .args in
+    let p = c .before .before .before .before .before .before .before .before .pre in
+    let i = c .before .before .found .given in
+    ((p .0 .0, found-below (holds (entry (a .key .now) (a .originator .now))) (a .memory .now) (i .0 .0) (sym (p .1) ∙ i .1)), p .0 .1 .payload-fits)
 
 returns : tie.Need-returns
-returns c = let a = c .before .before .before .before .before .before .before .before .before .before .before .before .before .args in let i = c .before .before .before .before .before .i .given in entry-held (entry (a .key .now) (a .originator .now)) (a .memory .now) (i .0 .0) (sym (c .before .before .before .before .before .before .before .find .ensures) ∙ i .1) (revalued (value (a .number) (a .payload .now) (a .remaining)) (isMarked (a .marks))) (c .before .before .put-value .last .0) (used (entry (a .key .now) (a .originator .now)) (value (a .number) (a .payload .now) (a .remaining)) (isMarked (a .marks))) (c .before .before .put-value .ensures .0)
+returns c =
+    let a = c .before .before .before .before .before .before .before .before .before .before .before .args in
+    let p = c .before .before .before .before .before .before .before .before .before .before .before .pre in
+    let i = c .before .before .before .before .before .found .given in
+    let v = value (a .number) (a .payload .now) (a .remaining) in
+    entry-held (entry (a .key .now) (a .originator .now)) (a .memory .now) (i .0 .0) (sym (p .1) ∙ i .1) (revalued v (isMarked (a .marks))) (c .before .before .put-value .last .0) (used (entry (a .key .now) (a .originator .now)) v (isMarked (a .marks))) (c .before .before .put-value .ensures)
 
 returns-2 : tie.Need-returns-2
-returns-2 c = let a = c .before .before .before .before .before .before .before .before .before .before .before .before .args in entry-new (entry (a .key .now) (a .originator .now)) (a .memory .now) (sym (c .before .before .before .before .before .before .find .ensures) ∙ c .before .before .before .before .enum-told .given .1) (revalued (value (a .number) (a .payload .now) (a .remaining)) (isMarked (a .marks))) (c .before .before .insert .last .0) (used (entry (a .key .now) (a .originator .now)) (value (a .number) (a .payload .now) (a .remaining)) (isMarked (a .marks))) (c .before .before .insert .ensures .rows)
+returns-2 c =
+    let a = c .before .before .before .before .before .before .before .before .before .before .args in
+    let p = c .before .before .before .before .before .before .before .before .before .before .pre in
+    let v = value (a .number) (a .payload .now) (a .remaining) in
+    entry-new (entry (a .key .now) (a .originator .now)) (a .memory .now) (sym (p .1) ∙ c .before .before .before .before .enum-told .given .1) (revalued v (isMarked (a .marks))) (c .before .before .insert .last .0) (used (entry (a .key .now) (a .originator .now)) v (isMarked (a .marks))) (c .before .before .insert .ensures .rows)
 
 pub put-entry-spec : {M : Type 1} → statement M
 put-entry-spec =
     tie.close
     (tie.spec
-    (λ c κs. search needs)
     (λ c. search needs)
     put-value-requires
     (λ c. search needs)

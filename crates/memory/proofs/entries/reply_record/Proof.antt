@@ -8,11 +8,11 @@ use borrow.Author.Needs.{needs}
 use Rattle.memory.proofs.entries.reply_record.Statement.{statement}
 use Rattle.memory.proofs.entries.reply_record.Tie as tie
 
-settle-requires : tie.Need-settle-requires
-settle-requires c κs = let a = c .before .before .before .before .before .before .before .before .before .args in let i = c .before .before .i .given in let h = found-below (holds (entry (a .key .now) (a .originator .now))) (a .memory .now) (i .0 .0) (sym (c .before .before .before .before .find .ensures) ∙ i .1) in (c .before .before .before .before .before .before .before .before .before .pre .0, (h, c .before .before .before .before .before .before .before .before .before .pre .1))
+reply-mark-requires : tie.Need-reply-mark-requires
+reply-mark-requires c κs = let a = c .before .before .before .before .before .before .before .before .before .args in let i = c .before .before .i .given in let h = found-below (holds (entry (a .key .now) (a .originator .now))) (a .memory .now) (i .0 .0) (sym (c .before .before .before .before .find .ensures) ∙ i .1) in (c .before .before .before .before .before .before .before .before .before .pre .0 .0, (h, c .before .before .before .before .before .before .before .before .before .pre .0 .1))
 
 returns : tie.Need-returns
-returns c = let a = c .before .before .before .before .before .before .before .before .before .before .before .before .args in let i = c .before .before .before .before .before .i .given in (entry-marked (entry (a .key .now) (a .originator .now)) (a .memory .now) (i .0 .0) (sym (c .before .before .before .before .before .before .before .find .ensures) ∙ i .1) (replied (a .k) (a .number)) (c .before .before .settle .last .0) (c .before .before .settle .ensures .0), found-kept (entry (a .key .now) (a .originator .now)) (a .memory .now) (i .0 .0) (sym (c .before .before .before .before .before .before .before .find .ensures) ∙ i .1) (c .before .before .settle .last .0))
+returns c = let a = c .before .before .before .before .before .before .before .before .before .before .before .before .args in let i = c .before .before .before .before .before .i .given in (entry-marked (entry (a .key .now) (a .originator .now)) (a .memory .now) (i .0 .0) (sym (c .before .before .before .before .before .before .before .find .ensures) ∙ i .1) (replied (a .k) (a .number)) (c .before .before .reply-mark .last .0) (c .before .before .reply-mark .ensures), found-kept (entry (a .key .now) (a .originator .now)) (a .memory .now) (i .0 .0) (sym (c .before .before .before .before .before .before .before .find .ensures) ∙ i .1) (c .before .before .reply-mark .last .0))
 
 returns-2 : tie.Need-returns-2
 returns-2 c = let a = c .before .before .before .before .before .before .before .args in (entry-absent (entry (a .key .now) (a .originator .now)) (a .memory .now) (sym (c .before .before .find .ensures) ∙ c .enum-told .given .1) (replied (a .k) (a .number)), λ h. refl)
@@ -23,7 +23,7 @@ reply-record-spec =
     (tie.spec
     (λ c κs. search needs)
     (λ c. search needs)
-    settle-requires
+    reply-mark-requires
     (λ c. search needs)
     (λ c. search needs)
     returns

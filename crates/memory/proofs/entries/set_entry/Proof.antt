@@ -9,6 +9,11 @@ use borrow.Author.Needs.{needs}
 use Rattle.memory.proofs.entries.set_entry.Statement.{statement}
 use Rattle.memory.proofs.entries.set_entry.Tie as tie
 
+find-requires : tie.Need-find-requires
+find-requires c κs =
+    let p = c .before .before .before .before .before .pre in
+    (p .0, ((p .1 .some-key, p .1 .key-fits), p .1 .originator-fits))
+
 change-row-requires : tie.Need-change-row-requires
 change-row-requires c κs = let a = c .before .before .before .before .before .before .before .before .before .before .args in let i = c .before .before .i .given in (c .before .before .before .before .before .before .before .before .before .before .pre .0, (found-below (holds (entry (a .key .now) (a .originator .now))) (a .memory .now) (i .0 .0) (sym (c .before .before .before .before .find .ensures) ∙ i .1), c .before .before .before .before .before .before .before .before .before .before .pre .1 .payload-fits))
 
@@ -21,8 +26,7 @@ returns-2 c = let a = c .before .before .before .before .before .before .before 
 pub set-entry-spec : {M : Type 1} → statement M
 set-entry-spec =
     tie.close
-    (tie.spec
-    (λ c κs. search needs)
+    (tie.spec find-requires
     (λ c. search needs)
     change-row-requires
     (λ c. search needs)

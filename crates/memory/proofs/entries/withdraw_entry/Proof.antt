@@ -12,7 +12,7 @@ use Rattle.memory.proofs.entries.withdraw_entry.Statement.{statement}
 use Rattle.memory.proofs.entries.withdraw_entry.Tie as tie
 
 change-row-requires : tie.Need-change-row-requires
-change-row-requires c κs = let a = c .before .before .before .before .before .before .before .before .before .before .args in let i = c .before .before .before .i .given in (c .before .before .before .before .before .before .before .before .before .before .pre, (found-below (holds (entry (a .key .now) (a .originator .now))) (a .memory .now) (i .0 .0) (sym (c .before .before .before .before .before .find .ensures) ∙ i .1), omega arith))
+change-row-requires c κs = let a = c .before .before .before .before .before .before .before .before .before .before .args in let i = c .before .before .before .i .given in (c .before .before .before .before .before .before .before .before .before .before .pre .0, (found-below (holds (entry (a .key .now) (a .originator .now))) (a .memory .now) (i .0 .0) (sym (c .before .before .before .before .before .find .ensures) ∙ i .1), omega arith))
 
 returns : tie.Need-returns
 returns c = let a = c .before .before .before .before .before .before .before .before .before .before .before .before .before .args in let i = c .before .before .before .before .before .before .i .given in (entry-changed (entry (a .key .now) (a .originator .now)) (a .memory .now) (i .0 .0) (sym (c .before .before .before .before .before .before .before .before .find .ensures) ∙ i .1) (changedRow (isMarked (a .live)) []) (c .before .before .change-row .last .0) (c .before .before .change-row .ensures), found-kept (entry (a .key .now) (a .originator .now)) (a .memory .now) (i .0 .0) (sym (c .before .before .before .before .before .before .before .before .find .ensures) ∙ i .1) (c .before .before .change-row .last .0))

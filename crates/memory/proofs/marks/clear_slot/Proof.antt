@@ -25,7 +25,7 @@ loop-again : tie.Need-loop-again Inv-loop μ-loop
 loop-again c =
     let a = c .before .before .before .before .before .before .before .args in
     let l = c .before .before .before .before .before .loop in
-    (search needs, changed-more (unmarked (a .k)) (a .memory .now) (l .memory) (l .i) (l .inv .1) (c .before .before .clear-mark .last .0) (c .before .before .before .before .loop-test .taken) (c .before .before .clear-mark .ensures .0))
+    (search needs, changed-more (unmarked (a .k)) (a .memory .now) (l .memory) (l .i) (l .inv .1) (c .before .before .clear-mark .last .0) (c .before .before .before .before .loop-test .taken) (c .before .before .clear-mark .ensures))
 
 same-length : tie.Need-same-length Inv-loop μ-loop
 same-length c = c .before .loop .inv .0

@@ -1,41 +1,29 @@
-use Rattle.memory.proofs.RowReads.{From, from-hit, from-miss, from-end}
-use Rattle.memory.specs.Search.{entry}
-use Rattle.rules.specs.Server.{holds}
+use mathlib.Core.Path.{ap, _∙_}
 use native.Mathlib.Omega.{arith}
-use Prim.Native.Nat.{_-_}
-use mathlib.Core.Path.{refl, sym, _∙_}
+use lib.ListN.{length, length-append}
+use Rattle.rules.specs.Server.{Entry, holds}
+use Rattle.memory.specs.Memory.{rowsIn}
+use Rattle.memory.specs.Search.{firstFrom}
+use Rattle.memory.proofs.NameLaws.{named-entry}
 use borrow.Author.Needs.{needs}
 use Rattle.memory.proofs.rows.find.Statement.{statement}
 use Rattle.memory.proofs.rows.find.Tie as tie
 
-abbrev Inv-loop : tie.InvT-loop
-Inv-loop memory key originator i₀ i = From (holds (entry key originator)) memory i
+find-named-requires : tie.Need-find-named-requires
+find-named-requires c κs =
+    let a = c .before .before .before .before .before .before .before .args in
+    let p = c .before .before .before .before .before .before .before .pre in
+    let n = ap length (c .first .ensures ∙ c .before .before .before .of-entry .ensures .0) ∙ length-append (a .key .now) (a .originator .now) in
+    (p .0, omega (arith, n, p .1 .0 .0, p .1 .1))
 
-abbrev μ-loop : tie.MeasureT-loop
-μ-loop memory key originator i₀ i = 64 - i
-
-loop-holds : tie.Need-loop-holds Inv-loop μ-loop
-loop-holds c = (omega arith, refl)
-
-returns : tie.Need-returns Inv-loop μ-loop
-returns c = let a = c .before .before .before .before .before .before .before .args in from-hit (holds (entry (a .key .now) (a .originator .now))) (a .memory .now) (c .before .before .before .loop .i) (c .before .before .loop-test .taken) (c .before .before .before .loop .inv) (sym (c .before .row-is .ensures) ∙ c .if1 .taken)
-
-loop-again : tie.Need-loop-again Inv-loop μ-loop
-loop-again c = let a = c .before .before .before .before .before .before .before .args in from-miss (holds (entry (a .key .now) (a .originator .now))) (a .memory .now) (c .before .before .before .loop .i) (c .before .before .loop-test .taken) (c .before .before .before .loop .inv) (sym (c .before .row-is .ensures) ∙ c .if1 .left)
-
-returns-2 : tie.Need-returns-2 Inv-loop μ-loop
-returns-2 c = let a = c .before .before .before .before .before .args in from-end (holds (entry (a .key .now) (a .originator .now))) (a .memory .now) (c .before .loop .i) (c .loop-test .left) (c .before .loop .inv)
+returns : tie.Need-returns
+returns c =
+    let a = c .before .before .before .before .before .before .before .before .args in
+    let p = c .before .before .before .before .before .before .before .before .pre in
+    c .find-named .ensures
+    ∙ ap (λ (e : Entry). firstFrom (holds e) 0 (rowsIn (a .memory .now))) (named-entry (a .key .now) (a .originator .now) (c .before .first .result .now) (p .1 .1) (c .before .first .ensures ∙ c .before .before .before .before .of-entry .ensures .0))
 
 pub find-spec : {M : Type 1} → statement M
 find-spec =
     tie.close
-    (tie.spec
-    Inv-loop
-    μ-loop
-    loop-holds
-    (λ c κs. search needs)
-    returns
-    (λ c. search needs)
-    (λ c. search needs)
-    loop-again
-    returns-2)
+    (tie.spec (λ c κs. search needs) (λ c. search needs) (λ c κs. search needs) find-named-requires returns)

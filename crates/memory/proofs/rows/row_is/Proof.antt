@@ -1,15 +1,30 @@
-use Rattle.memory.proofs.RowReads.{row-hit, row-miss}
-use Rattle.memory.specs.Search.{entry}
+use Rattle.memory.specs.Memory.{entryNamed}
+use Rattle.rules.specs.Server.{holds}
+use Rattle.laws.specs.Tables.{same}
+use mathlib.Core.Path.{_∙_, ap, sym}
+use Rattle.memory.proofs.RowPlaces.{held-by-name, other-tag, free-row}
 use borrow.Author.Needs.{needs}
 use Rattle.memory.proofs.rows.row_is.Statement.{statement}
 use Rattle.memory.proofs.rows.row_is.Tie as tie
 
 returns : tie.Need-returns
-returns c = let a = c .before .before .before .before .before .before .args in row-hit (a .memory .now) (a .i) (entry (a .key .now) (a .originator .now)) (c .before .before .is-used .ensures) (c .before .if1 .taken) (c .entry-is .ensures)
+returns c = let a = c .before .before .before .before .args in let p = c .before .before .before .before .pre in sym (other-tag (a .memory .now) (a .i) (p .0 .0) (p .0 .1) (a .name .now) (p .1 .0) (λ e. c .if1 .taken (e ∙ sym (p .1 .1))))
 
 returns-2 : tie.Need-returns-2
-returns-2 c = let a = c .before .before .before .before .before .args in row-miss (a .memory .now) (a .i) (entry (a .key .now) (a .originator .now)) (c .before .is-used .ensures) (c .if1 .left)
+returns-2 c = let a = c .before .before .before .before .before .before .before .before .args in let p = c .before .before .before .before .before .before .before .before .pre in c .same .ensures ∙ ap (λ n. same n (a .name .now)) (c .before .name-of .ensures) ∙ held-by-name (a .memory .now) (a .i) (p .0 .0) (p .0 .1) (a .name .now) (p .1 .0) (c .before .before .before .before .if1 .left ∙ p .1 .1) (sym (c .before .before .before .is-used .ensures) ∙ c .before .before .if2 .taken)
+
+returns-3 : tie.Need-returns-3
+returns-3 c = let a = c .before .before .before .before .before .before .args in sym (ap (holds (entryNamed (a .name .now))) (free-row (a .memory .now) (a .i) (sym (c .before .is-used .ensures) ∙ c .if2 .left)))
 
 pub row-is-spec : {M : Type 1} → statement M
 row-is-spec =
-    tie.close (tie.spec (λ c κs. search needs) (λ c. search needs) (λ c κs. search needs) returns returns-2)
+    tie.close
+    (tie.spec
+    (λ c. search needs)
+    (λ c. search needs)
+    returns
+    (λ c κs. search needs)
+    (λ c κs. search needs)
+    (λ c κs. search needs)
+    returns-2
+    returns-3)

@@ -1,5 +1,5 @@
-use Rattle.memory.proofs.RowReads.{Counted, counted-none, counted-more, counted-all}
 use Prim.Native.Nat.{_-_}
+use Rattle.memory.proofs.RowReads.{Counted, counted-none, counted-more, counted-all}
 use borrow.Author.Needs.{needs}
 use Rattle.memory.proofs.rows.rows_used.Statement.{statement}
 use Rattle.memory.proofs.rows.rows_used.Tie as tie
@@ -14,7 +14,7 @@ loop-holds : tie.Need-loop-holds Inv-loop μ-loop
 loop-holds c = counted-none (c .before .args .memory .now)
 
 loop-again : tie.Need-loop-again Inv-loop μ-loop
-loop-again c = counted-more (c .before .before .before .before .args .memory .now) (c .before .before .loop .n) (c .before .before .loop .i) (c .before .loop-test .taken) (c .before .before .loop .inv) (c .one-if-used .ensures .0) (c .one-if-used .ensures .1)
+loop-again c = counted-more (c .before .before .before .before .before .args .memory .now) (c .before .before .before .loop .n) (c .before .before .before .loop .i) (c .one-if .result) (c .before .before .loop-test .taken) (c .before .before .before .loop .inv) (c .one-if .ensures)
 
 returns : tie.Need-returns Inv-loop μ-loop
 returns c = counted-all (c .before .before .before .args .memory .now) (c .before .loop .n) (c .before .loop .i) (c .loop-test .left) (c .before .loop .inv)
@@ -26,9 +26,12 @@ rows-used-spec =
     Inv-loop
     μ-loop
     loop-holds
+    (λ c. search needs)
+    (λ c. search needs)
     (λ c κs. search needs)
     (λ c. search needs)
     (λ c. search needs)
     (λ c. search needs)
     loop-again
+    (λ c. search needs)
     returns)

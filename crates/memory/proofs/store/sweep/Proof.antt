@@ -1,38 +1,37 @@
-use Rattle.memory.proofs.RowLoops.{changed-none, changed-all}
-use Rattle.memory.specs.Search.{SweptTo}
-use Rattle.rules.specs.Rows.{sweptRow}
-use lib.ListN.{length}
-use native.Mathlib.Omega.{arith}
-use Prim.Native.Nat.{_-_, _%_}
 use mathlib.Core.Path.{_≡_, refl, _∙_}
+use Prim.Native.Nat.{_-_}
+use lib.ListN.{length}
+use Rattle.rules.specs.Server.{free}
+use Rattle.rules.specs.Rows.{sweptRow}
+use Rattle.memory.specs.Memory.{rowsIn, memoryOf, withRows}
+use Rattle.memory.proofs.MarkLaws.{as-changed}
+use Rattle.memory.proofs.RowLoops.{front, changed-more, changed-all}
+use Rattle.memory.proofs.RowSweep.{swept-first}
 use borrow.Author.Needs.{needs}
 use Rattle.memory.proofs.store.sweep.Statement.{statement}
 use Rattle.memory.proofs.store.sweep.Tie as tie
 
 abbrev Inv-loop : tie.InvT-loop
-Inv-loop memory₀ i₀ memory i = (i % 4 ≡ 0) × ((length memory ≡ length memory₀) × SweptTo i memory₀ memory)
+Inv-loop memory₀ i₀ memory i = (length memory ≡ length memory₀) × (memoryOf memory ≡ withRows (front sweptRow free (rowsIn memory₀) i) (memoryOf memory₀))
 
 abbrev μ-loop : tie.MeasureT-loop
 μ-loop memory₀ i₀ memory i = 64 - i
 
 loop-holds : tie.Need-loop-holds Inv-loop μ-loop
-loop-holds c = (refl, (refl, changed-none sweptRow (c .before .args .memory .now)))
+loop-holds c = (refl, swept-first (c .before .before .before .args .memory .now) (c .first-last .result) (c .first-last .ensures))
 
-sweep-four-requires : tie.Need-sweep-four-requires Inv-loop μ-loop
-sweep-four-requires c κs =
-    let l = c .before .before .loop .inv in
-    (l .1 .0 ∙ c .before .before .before .before .pre, omega (arith, l .0, c .before .loop-test .taken))
+sweep-row-requires : tie.Need-sweep-row-requires Inv-loop μ-loop
+sweep-row-requires c κs = (c .before .before .loop .inv .0 ∙ c .before .before .before .before .before .before .pre, c .before .loop-test .taken)
 
 loop-again : tie.Need-loop-again Inv-loop μ-loop
 loop-again c =
-    let l = c .before .before .before .before .before .loop .inv in
-    let q = c .before .before .sweep-four in
-    (omega (arith, l .0), (q .kept .0 ∙ l .1 .0, q .ensures (c .before .before .before .before .before .before .before .args .memory .now) (l .1 .1)))
+    let a = c .before .before .before .before .before .before .before .before .before .args .memory .now in
+    let l = c .before .before .before .before .before .loop in
+    let q = c .before .before .sweep-row in
+    (q .kept .0 ∙ l .inv .0, changed-more sweptRow a (l .memory) (l .i) (l .inv .1) (q .last .0) (c .before .before .before .before .loop-test .taken) (as-changed sweptRow (l .memory) (q .last .0) (l .i) (c .before .before .before .before .loop-test .taken) (q .ensures)))
 
 returns : tie.Need-returns Inv-loop μ-loop
-returns c =
-    let l = c .before .loop in
-    changed-all sweptRow (c .before .before .before .args .memory .now) (l .memory) (l .i) (l .inv .1 .1) (c .loop-test .left)
+returns c = changed-all sweptRow (c .before .before .before .before .before .args .memory .now) (c .before .loop .memory) (c .before .loop .i) (c .before .loop .inv .1) (c .loop-test .left)
 
 pub sweep-spec : {M : Type 1} → statement M
 sweep-spec =
@@ -40,8 +39,10 @@ sweep-spec =
     (tie.spec
     Inv-loop
     μ-loop
+    (λ c κs. search needs)
+    (λ c. search needs)
     loop-holds
-    sweep-four-requires
+    sweep-row-requires
     (λ c. search needs)
     (λ c. search needs)
     loop-again

@@ -1,24 +1,13 @@
-use Rattle.memory.proofs.RowSweep.{swept-free, swept-same, stays-put}
-use Rattle.memory.specs.Search.{withRow}
-use Rattle.memory.specs.Memory.{rowIn}
-use Rattle.rules.specs.Server.{Row}
-use mathlib.Core.Path.{sym, ap, _∙_}
+use Rattle.memory.proofs.RowSweep.{swept-now, swept-not}
 use borrow.Author.Needs.{needs}
 use Rattle.memory.proofs.store.sweep_row.Statement.{statement}
 use Rattle.memory.proofs.store.sweep_row.Tie as tie
 
 returns : tie.Need-returns
-returns c =
-    let a = c .before .before .before .before .before .before .before .before .args in
-    c .before .before .free-at .ensures
-    ∙ ap (λ (r : Row). withRow (a .memory .now) (a .i) r)
-    (sym (swept-free (rowIn (a .memory .now) (a .i)) (c .before .before .before .before .before .is-gone .ensures) (c .before .before .before .before .if1 .taken)))
+returns c = let a = c .before .before .before .before .before .before .before .before .args in swept-now (a .memory .now) (c .before .before .free-at .last .0) (a .i) (c .before .before .before .before .before .is-last .ensures) (c .before .before .before .before .if1 .taken) (c .before .before .free-at .ensures)
 
 returns-2 : tie.Need-returns-2
-returns-2 c =
-    let s = c .before .before .before .before in
-    stays-put (s .args .memory .now) (s .args .i) (s .pre .1)
-    (swept-same (rowIn (s .args .memory .now) (s .args .i)) (c .before .is-gone .ensures) (c .if1 .left))
+returns-2 c = let a = c .before .before .before .before .args in swept-not (a .memory .now) (a .i) (c .before .before .before .before .pre .1) (c .before .is-last .ensures) (c .if1 .left)
 
 pub sweep-row-spec : {M : Type 1} → statement M
 sweep-row-spec =

@@ -7,7 +7,7 @@ use Rattle.memory.specs.Entries.{rowsAs}
 use Rattle.memory.specs.Memory.{memoryOf}
 use Rattle.rules.specs.Updates.{allReplied}
 use Rattle.records.specs.Walks.{Walks}
-use Rattle.records.proofs.WalkLaws.{steps-found, steps-ended, walk-end, walk-near, step-records, step-less, step-walks}
+use Rattle.records.proofs.WalkLaws.{steps-found, steps-ended, walk-end, walk-near, step-records, step-less, step-fits, step-walks}
 use Rattle.records.proofs.StepLaws.{replies-end, replies-then}
 use borrow.Author.Needs.{needs}
 use Rattle.records.proofs.replies.reply_all.Statement.{statement}
@@ -37,7 +37,13 @@ returns c =
     l .inv .1 .1 (l .memory) (replies-end (a .k) (l .memory) (recordsOf p (l .at)) (walk-end p (l .at) (steps-ended p (l .at) (r .result) (r .ensures) (c .enum-told .given .1))))
 
 reply-one-requires : tie.Need-reply-one-requires Inv-loop μ-loop
-reply-one-requires c κs = (c .before .before .before .before .before .loop .inv .0 ∙ c .before .before .before .before .before .before .before .before .pre .0, c .before .before .before .before .before .before .before .before .pre .1 .0)
+reply-one-requires c κs =
+    let p = c .before .before .before .before .before .before .before .before .args .p .now in
+    let l = c .before .before .before .before .before .loop in
+    let r = c .before .before .before .before .«record» in
+    let g = c .before .before .v .given in
+    let s = steps-found p (l .at) (r .result) (r .ensures) (g .0 .0) (g .0 .1 .0) (g .1) in
+    (l .inv .0 ∙ c .before .before .before .before .before .before .before .before .pre .0, (c .before .before .before .before .before .before .before .before .pre .1 .0, step-fits p (l .at) (g .0 .0) (g .0 .1 .0) s (l .inv .1 .0)))
 
 loop-less : tie.Need-loop-less Inv-loop μ-loop
 loop-less c =

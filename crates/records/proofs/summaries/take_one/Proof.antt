@@ -1,6 +1,4 @@
-use native.Mathlib.Omega.{arith}
-use lib.ListN.{length}
-use mathlib.Core.Path.{ap, _∙_}
+use Rattle.records.proofs.StandingLaws.{fits-key}
 use Rattle.wire.specs.Views.{csaRecordOf}
 use Rattle.memory.specs.Search.{entry}
 use Rattle.records.proofs.StepLaws.{entry-by, takes-one}
@@ -10,8 +8,9 @@ use Rattle.records.proofs.summaries.take_one.Tie as tie
 
 take-in-requires : tie.Need-take-in-requires
 take-in-requires c κs =
+    let a = c .before .before .before .before .before .args in
     let w = c .before .before .before .before .before .pre in
-    (w .1 .0, ((omega (arith, ap length (c .before .key .ensures), w .1 .1 .key-fits), ap length (c .originator .ensures) ∙ w .1 .1 .originator-fits), w .0))
+    (w .1 .0, (fits-key (a .memory .now) (csaRecordOf (a .p .now) (a .v)) (c .before .key .result .now) (c .originator .result .now) (c .before .key .ensures) (c .originator .ensures) (w .1 .1), w .0))
 
 returns : tie.Need-returns
 returns c =

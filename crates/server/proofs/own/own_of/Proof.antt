@@ -10,7 +10,7 @@ use Rattle.server.proofs.own.own_of.Tie as tie
 own-at-requires : tie.Need-own-at-requires
 own-at-requires c κs =
     let a = c .before .before .before .before .before .before .before .args in
-    (c .before .before .before .before .before .before .before .pre, found-below (holds (entry (a .key .now) (a .id .now))) (a .memory .now) (c .before .i .given .0 .0) (sym (c .before .before .before .find .ensures) ∙ c .before .i .given .1))
+    (c .before .before .before .before .before .before .before .pre .0, found-below (holds (entry (a .key .now) (a .id .now))) (a .memory .now) (c .before .i .given .0 .0) (sym (c .before .before .before .find .ensures) ∙ c .before .i .given .1))
 
 returns : tie.Need-returns
 returns c =

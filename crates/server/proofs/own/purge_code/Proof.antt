@@ -4,12 +4,15 @@ use borrow.Author.Tests.{not-true, not-false}
 use borrow.Author.Needs.{needs}
 use Rattle.rules.specs.Refusals.{ownKeyGood}
 use Rattle.server.specs.State.{serverOf}
-use Rattle.server.proofs.OwnLaws.{purge-key, purge-absent, purge-purged, purge-taken}
+use Rattle.server.proofs.OwnLaws.{key-room, purge-key, purge-absent, purge-purged, purge-taken}
 use Rattle.server.proofs.own.purge_code.Statement.{statement}
 use Rattle.server.proofs.own.purge_code.Tie as tie
 
 key-ok : (c : tie.Else1) → ownKeyGood (c .before .before .before .before .args .key .now) ≡ true
 key-ok c = sym (c .before .key-good .ensures) ∙ not-false (c .before .key-good .result) (c .if1 .left)
+
+own-of-requires : tie.Need-own-of-requires
+own-of-requires c κs = (c .before .before .before .before .before .before .before .pre, key-room (c .before .before .before .before .before .before .before .args .key .now) (c .before .before .before .before .before .before .before .args .s .settings .id) (key-ok (c .before .before .before)) (search needs))
 
 returns : tie.Need-returns
 returns c = λ slots.
@@ -38,7 +41,7 @@ purge-code-spec =
     (λ c κs. search needs)
     returns
     (λ c. search needs)
-    (λ c κs. search needs)
+    own-of-requires
     returns-2
     returns-3
     returns-4)

@@ -4,7 +4,7 @@ use borrow.Author.Tests.{not-true, not-false}
 use borrow.Author.Needs.{needs}
 use Rattle.rules.specs.Refusals.{ownKeyGood, ownPayloadGood}
 use Rattle.server.specs.State.{serverOf}
-use Rattle.server.proofs.OwnLaws.{set-key, set-payload, set-spent, set-held, set-new, set-full}
+use Rattle.server.proofs.OwnLaws.{key-room, set-key, set-payload, set-spent, set-held, set-new, set-full}
 use Rattle.server.proofs.own.set_code.Statement.{statement}
 use Rattle.server.proofs.own.set_code.Tie as tie
 
@@ -13,6 +13,9 @@ key-ok c = sym (c .before .key-good .ensures) ∙ not-false (c .before .key-good
 
 payload-ok : (c : tie.Else2) → ownPayloadGood (c .before .before .before .before .before .before .before .args .payload .now) ≡ true
 payload-ok c = sym (c .before .payload-good .ensures) ∙ not-false (c .before .payload-good .result) (c .if2 .left)
+
+own-of-requires : tie.Need-own-of-requires
+own-of-requires c κs = (c .before .before .before .before .before .before .before .before .before .before .pre, key-room (c .before .before .before .before .before .before .before .before .before .before .args .key .now) (c .before .before .before .before .before .before .before .before .before .before .args .s .settings .id) (key-ok (c .before .before .before .before .before)) (search needs))
 
 returns : tie.Need-returns
 returns c = λ slots.
@@ -53,7 +56,7 @@ set-code-spec =
     (λ c κs. search needs)
     returns-2
     (λ c. search needs)
-    (λ c κs. search needs)
+    own-of-requires
     returns-3
     returns-4
     (λ c κs. search needs)

@@ -1,4 +1,5 @@
-use Rattle.server.proofs.OwnLaws.{withdraw-does}
+use Rattle.server.specs.State.{serverOf}
+use Rattle.server.proofs.OwnLaws.{withdraw-fits, withdraw-does}
 use Rattle.server.proofs.DoesLaws.{does-refused}
 use mathlib.Core.Path.{refl}
 use Rattle.rules.specs.Events.{codeOf}
@@ -6,6 +7,11 @@ use Rattle.rules.specs.Events as events
 use borrow.Author.Needs.{needs}
 use Rattle.server.proofs.own.withdraw.Statement.{statement}
 use Rattle.server.proofs.own.withdraw.Tie as tie
+
+withdraw-taken-requires : tie.Need-withdraw-taken-requires
+withdraw-taken-requires c κs =
+    let a = c .before .before .before .before .before .before .before .before .args in
+    (c .before .before .before .before .before .before .before .before .pre, withdraw-fits (serverOf (a .s) (a .slots .now) (a .memory .now)) (a .key .now) (c .before .before .before .withdraw-code .result) (c .before .enum-told .given .1) (search needs) (c .before .before .before .withdraw-code .ensures (a .slots .now)))
 
 returns : tie.Need-returns
 unfolding codeOf
@@ -28,7 +34,7 @@ withdraw-spec =
     (λ c. search needs)
     (λ c κs. search needs)
     (λ c. search needs)
-    (λ c κs. search needs)
+    withdraw-taken-requires
     (λ c κs. search needs)
     (λ c. search needs)
     returns

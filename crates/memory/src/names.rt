@@ -1,0 +1,33 @@
+// Names: key and originator of an entry, one behind the other, as they stand in a packet and in a row.
+ghost use mathlib.Core.Path.{_≡_};
+ghost use mathlib.Core.List.{_++_};
+ghost use Prim.Native.Nat.{_+_, _≤_};
+ghost use lib.ListN.{length, take};
+ghost use Rattle.laws.specs.Puts.{putAt};
+ghost use Rattle.memory.specs.Search.{FitsKey};
+
+pub struct Name {
+    pub octets: [u8; 20],
+    pub len: usize,
+}
+
+// b with src in its place from at on.
+fn put_in(b: [u8; 20], at: usize, src: &[u8]) -> [u8; 20]
+    requires { ⌜ at + length (now src) ≤ 20 ⌝ }
+    ensures { λ r. ⌜ (length r ≡ 20) × (r ≡ putAt b at (now (src .entry))) ⌝ }
+{
+    let mut q = b;
+    let to = at + src.len();
+    bytes::copy(src, &mut q[at..to]);
+    q
+}
+
+pub fn of_entry(key: &[u8], originator: &[u8]) -> Name
+    requires { ⌜ FitsKey (now key) (now originator) ⌝ }
+    ensures { λ r. ⌜ (take (r .len) (r .octets) ≡ now (key .entry) ++ now (originator .entry)) × ((r .len ≡ length (now (key .entry)) + 4) × (length (r .octets) ≡ 20)) ⌝ }
+{
+    let n = key.len();
+    let b = [0u8; 20];
+    let octets = put_in(put_in(b, 0, key), n, originator);
+    Name { octets, len: n + 4 }
+}
