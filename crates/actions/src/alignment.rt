@@ -78,7 +78,8 @@ fn write_ca(
     out: &mut [u8],
 ) -> usize
     requires { ⌜ ((length (now memory) ≡ memorySize) × (284 ≤ length (now out))) × ((picks .count ≤ 4) × (length (picks .rows) ≡ 4)) ⌝ }
-    ensures { λ r. ⌜ Wrote (packetOf (ourMessage c (ca number flags (rowsOf rules.summaryRecord (rowsIn (now (memory .entry))) (picksOf picks))))) (now (out .entry)) (now (out .exit)) r ⌝ }
+    ensures { λ r. ⌜ Wrote (packetOf (ourMessage c (ca number flags (rowsOf rules.summaryRecord (rowsIn (now (memory .entry))) (picksOf picks)))))
+        (now (out .entry)) (now (out .exit)) r ⌝ }
     ensures most { λ r. ⌜ r ≤ 284 ⌝ }
 {
     let records = held::picked(memory, picks);
@@ -96,7 +97,8 @@ pub fn send_ca(
     out: &mut [u8],
 ) -> usize
     requires { ⌜ ((length (now memory) ≡ memorySize) × ((k < 8) × (284 ≤ length (now out)))) × ((picks .count ≤ 4) × (length (picks .rows) ≡ 4)) ⌝ }
-    ensures { λ r. ⌜ SendsCa k (packetOf (ourMessage c (ca number flags (rowsOf rules.summaryRecord (rowsIn (now (memory .entry))) (picksOf picks))))) (now (memory .entry)) (now (memory .exit)) (now (out .entry)) (now (out .exit)) r ⌝ }
+    ensures { λ r. ⌜ SendsCa k (packetOf (ourMessage c (ca number flags (rowsOf rules.summaryRecord (rowsIn (now (memory .entry))) (picksOf picks)))))
+        (now (memory .entry)) (now (memory .exit)) (now (out .entry)) (now (out .exit)) r ⌝ }
 {
     let n = write_ca(memory, c, number, flags, picks, out);
     kept::keep(memory, k, octets::first(out, n));
@@ -168,7 +170,8 @@ fn flags_of(l: Link) -> CaFlags
 // The slot once its summaries were taken in: its link moved, and the requests that found no room.
 fn taken_in(memory: &mut [u8], k: usize, p: &[u8], h: Head, x: Slot, l: Link) -> Slot
     requires { ⌜ (length (now memory) ≡ memorySize) × ((k < 8) × Walks (now p) (h .records)) ⌝ }
-    ensures { λ r. ⌜ Leaves k (takingIn l (rowsIn (now (memory .entry))) (recordsOf (now (p .entry)) (h .records)) (slotWith x k (now (memory .entry)))) (rowsIn (now (memory .entry))) (now (memory .entry)) (now (memory .exit)) r ⌝ }
+    ensures { λ r. ⌜ Leaves k (takingIn l (rowsIn (now (memory .entry))) (recordsOf (now (p .entry)) (h .records)) (slotWith x k (now (memory .entry))))
+        (rowsIn (now (memory .entry))) (now (memory .entry)) (now (memory .exit)) r ⌝ }
 {
     let c = h.records;
     let missed = summaries::take_all(memory, k, p, c, x.missed);
@@ -187,7 +190,8 @@ pub fn complete(memory: &[u8], k: usize, x: Slot) -> Slot
 // The link after the CA; the next answer goes on from the row `next`.
 fn link_after(memory: &[u8], p: &[u8], rule: CaRule, x: Slot, next: usize) -> Link
     requires { ⌜ length (now memory) ≡ memorySize ⌝ }
-    ensures { λ r. ⌜ ((sender : List ℕ) (empty : Bool) → r ≡ links.caMove (ruleOf rule) (caIn (headAt (now (p .entry))) sender empty) (usedFrom (rowsIn (now (memory .entry))) next) (x .link)) ⌝ }
+    ensures { λ r. ⌜ ((sender : List ℕ) (empty : Bool) → r ≡ links.caMove (ruleOf rule) (caIn (headAt (now (p .entry))) sender empty)
+        (usedFrom (rowsIn (now (memory .entry))) next) (x .link)) ⌝ }
 {
     let more = next::used_from(memory, next);
     let old = x.link;
@@ -205,7 +209,10 @@ fn send_answer(
     out: &mut [u8],
 ) -> Acted
     requires { ⌜ ((length (now memory) ≡ memorySize) × ((k < 8) × (284 ≤ length (now out)))) × ((picks .count ≤ 4) × (length (picks .rows) ≡ 4)) ⌝ }
-    ensures { λ r. ⌜ (let m = slots.toPeer (settingsOf s) (slotWith x k (now (memory .entry))) (ca (x .link .number) (rules.caFlags (isMaster (x .link .role)) (x .link .more)) (rowsOf rules.summaryRecord (rowsIn (now (memory .entry))) (picksOf picks))) in Acts k (slots.completed (rules.keeping (newPacket m) time (picks .next) (slotWith x k (now (memory .entry))))) (rowsIn (now (memory .entry))) (packetOf m) (now (memory .entry)) (now (memory .exit)) (now (out .entry)) (now (out .exit)) r) ⌝ }
+    ensures { λ r. ⌜ (let m = slots.toPeer (settingsOf s) (slotWith x k (now (memory .entry)))
+        (ca (x .link .number) (rules.caFlags (isMaster (x .link .role)) (x .link .more)) (rowsOf rules.summaryRecord (rowsIn (now (memory .entry)))
+        (picksOf picks))) in Acts k (slots.completed (rules.keeping (newPacket m) time (picks .next) (slotWith x k (now (memory .entry)))))
+        (rowsIn (now (memory .entry))) (packetOf m) (now (memory .entry)) (now (memory .exit)) (now (out .entry)) (now (out .exit)) r) ⌝ }
 {
     let peer = x.peer;
     let l = x.link;
@@ -229,7 +236,10 @@ fn answer(
     out: &mut [u8],
 ) -> Acted
     requires { ⌜ ((length (now memory) ≡ memorySize) × ((k < 8) × (284 ≤ length (now out)))) × (Walks (now p) (h .records) × (answers (ruleOf rule) ≡ true)) ⌝ }
-    ensures { λ r. ⌜ Acts k (rules.caSlot (ruleOf rule) (settingsOf s) time (rowsIn (now (memory .entry))) (caPacketAt (now (p .entry)) h) (slotWith x k (now (memory .entry)))) (rowsIn (now (memory .entry))) (octetsOf (rules.caSentBy (ruleOf rule) (settingsOf s) (rowsIn (now (memory .entry))) (caPacketAt (now (p .entry)) h) (slotWith x k (now (memory .entry))))) (now (memory .entry)) (now (memory .exit)) (now (out .entry)) (now (out .exit)) r ⌝ }
+    ensures { λ r. ⌜ Acts k (rules.caSlot (ruleOf rule) (settingsOf s) time (rowsIn (now (memory .entry))) (caPacketAt (now (p .entry)) h)
+        (slotWith x k (now (memory .entry)))) (rowsIn (now (memory .entry))) (octetsOf (rules.caSentBy (ruleOf rule) (settingsOf s)
+        (rowsIn (now (memory .entry))) (caPacketAt (now (p .entry)) h) (slotWith x k (now (memory .entry))))) (now (memory .entry)) (now (memory .exit))
+        (now (out .entry)) (now (out .exit)) r ⌝ }
 {
     let picks = next::next_used(memory, answer_from(rule, x));
     let l = link_after(memory, p, rule, x, picks.next);
@@ -241,7 +251,8 @@ fn answer(
 // The kept CA is sent again.
 pub fn repeat(memory: &[u8], k: usize, time: u32, x: Slot, out: &mut [u8]) -> Acted
     requires { ⌜ (length (now memory) ≡ memorySize) × ((k < 8) × (284 ≤ length (now out))) ⌝ }
-    ensures { λ r. ⌜ (slotWith (r .slot) k (now (memory .entry)) ≡ slots.caSent time (slotWith x k (now (memory .entry)))) × Wrote (keptIn (now (memory .entry)) k) (now (out .entry)) (now (out .exit)) (r .written) ⌝ }
+    ensures { λ r. ⌜ (slotWith (r .slot) k (now (memory .entry)) ≡ slots.caSent time (slotWith x k (now (memory .entry))))
+        × Wrote (keptIn (now (memory .entry)) k) (now (out .entry)) (now (out .exit)) (r .written) ⌝ }
 {
     let n = kept::give(memory, k, out);
     let slot = state::ca_sent(x, time);
@@ -251,7 +262,8 @@ pub fn repeat(memory: &[u8], k: usize, time: u32, x: Slot, out: &mut [u8]) -> Ac
 // The master drops its kept CA on entering Update.
 fn done(memory: &mut [u8], p: &[u8], h: Head, k: usize, x: Slot) -> Slot
     requires { ⌜ (length (now memory) ≡ memorySize) × ((k < 8) × Walks (now p) (h .records)) ⌝ }
-    ensures { λ r. ⌜ Leaves k (slots.completed (slots.withKept [] (rules.taking links.masterDone (rowsIn (now (memory .entry))) (caPacketAt (now (p .entry)) h) (slotWith x k (now (memory .entry)))))) (rowsIn (now (memory .entry))) (now (memory .entry)) (now (memory .exit)) r ⌝ }
+    ensures { λ r. ⌜ Leaves k (slots.completed (slots.withKept [] (rules.taking links.masterDone (rowsIn (now (memory .entry)))
+        (caPacketAt (now (p .entry)) h) (slotWith x k (now (memory .entry)))))) (rowsIn (now (memory .entry))) (now (memory .entry)) (now (memory .exit)) r ⌝ }
 {
     let old = x.link;
     let l = alignment::ca_move(CaRule::MasterDone, head_of(p), old.more, old);
@@ -273,7 +285,8 @@ pub fn take_ca(
     out: &mut [u8],
 ) -> Acted
     requires { ⌜ ((length (now memory) ≡ memorySize) × ((k < 8) × (284 ≤ length (now out)))) × Walks (now p) (h .records) ⌝ }
-    ensures { λ r. ⌜ TakesCa (ruleOf rule) k time (settingsOf s) (caPacketAt (now (p .entry)) h) x (now (memory .entry)) (now (memory .exit)) (now (out .entry)) (now (out .exit)) r ⌝ }
+    ensures { λ r. ⌜ TakesCa (ruleOf rule) k time (settingsOf s) (caPacketAt (now (p .entry)) h) x (now (memory .entry)) (now (memory .exit))
+        (now (out .entry)) (now (out .exit)) r ⌝ }
 {
     match rule {
         CaRule::Refuse => parts::silent(x),

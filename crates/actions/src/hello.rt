@@ -60,7 +60,9 @@ pub fn take_hello(
     x: Slot,
 ) -> Slot
     requires { ⌜ (length (now memory) ≡ memorySize) × ((k < 8) × (h .records .at + h .records .left * 65535 ≤ 1048576)) ⌝ }
-    ensures { λ r. ⌜ Moves k (links.helloMove time (field2 (now (p .entry)) 8) (field2 (now (p .entry)) 10) (rules.namesUs (now (id .entry)) (messageOf (now (p .entry)) h .receiver) (receiversOf (now (p .entry)) (h .records))) (x .link)) x (now (memory .entry)) (now (memory .exit)) r ⌝ }
+    ensures { λ r. ⌜ Moves k (links.helloMove time (field2 (now (p .entry)) 8) (field2 (now (p .entry)) 10)
+        (rules.namesUs (now (id .entry)) (messageOf (now (p .entry)) h .receiver) (receiversOf (now (p .entry)) (h .records))) (x .link)) x
+        (now (memory .entry)) (now (memory .exit)) r ⌝ }
 {
     let named = names_us(id, p, h);
     let interval = read::interval(p);

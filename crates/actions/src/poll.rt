@@ -127,7 +127,8 @@ fn summarize_due(time: u32, x: Slot, role: Role) -> Plan
 
 fn due_in(memory: &[u8], k: usize, time: u32, x: Slot) -> Plan
     requires { ⌜ (length (now memory) ≡ memorySize) × (k < 8) ⌝ }
-    ensures { λ r. ⌜ Plans (rules.dueIn time (rowsIn (now (memory .entry))) k (slotWith x k (now (memory .entry))) (x .link .alignment)) k x (now (memory .entry)) r ⌝ }
+    ensures { λ r. ⌜ Plans (rules.dueIn time (rowsIn (now (memory .entry))) k (slotWith x k (now (memory .entry))) (x .link .alignment)) k x
+        (now (memory .entry)) r ⌝ }
 {
     let l = x.link;
     let a = l.alignment;
@@ -147,7 +148,8 @@ fn due_in(memory: &[u8], k: usize, time: u32, x: Slot) -> Plan
 
 fn due_of(s: Settings, memory: &[u8], k: usize, time: u32, x: Slot) -> Plan
     requires { ⌜ (length (now memory) ≡ memorySize) × (k < 8) ⌝ }
-    ensures { λ r. ⌜ Plans (rules.dueOf (settingsOf s) time (rowsIn (now (memory .entry))) k (slotWith x k (now (memory .entry)))) k x (now (memory .entry)) r ⌝ }
+    ensures { λ r. ⌜ Plans (rules.dueOf (settingsOf s) time (rowsIn (now (memory .entry))) k (slotWith x k (now (memory .entry)))) k x
+        (now (memory .entry)) r ⌝ }
 {
     let t = x.timers;
     let last = t.hello;
@@ -160,7 +162,8 @@ fn due_of(s: Settings, memory: &[u8], k: usize, time: u32, x: Slot) -> Plan
 // ---- what is written
 fn send_hello(s: Settings, x: Slot, out: &mut [u8]) -> usize
     requires { ⌜ 284 ≤ length (now out) ⌝ }
-    ensures { λ r. ⌜ ((k : ℕ) (memory : List ℕ) → Wrote (packetOf (rules.helloOf (settingsOf s) (slotWith x k memory))) (now (out .entry)) (now (out .exit)) r) ⌝ }
+    ensures { λ r. ⌜ ((k : ℕ) (memory : List ℕ) → Wrote (packetOf (rules.helloOf (settingsOf s) (slotWith x k memory))) (now (out .entry))
+        (now (out .exit)) r) ⌝ }
 {
     let l = x.link;
     let h = l.hello;
@@ -178,7 +181,8 @@ fn send_hello(s: Settings, x: Slot, out: &mut [u8]) -> usize
 // M, I, O set, no records; it is kept.
 fn send_first_ca(s: Settings, memory: &mut [u8], k: usize, x: Slot, out: &mut [u8]) -> usize
     requires { ⌜ (length (now memory) ≡ memorySize) × ((k < 8) × (284 ≤ length (now out))) ⌝ }
-    ensures { λ r. ⌜ SendsCa k (packetOf (rules.firstCaOf (settingsOf s) (slotWith x k (now (memory .entry))))) (now (memory .entry)) (now (memory .exit)) (now (out .entry)) (now (out .exit)) r ⌝ }
+    ensures { λ r. ⌜ SendsCa k (packetOf (rules.firstCaOf (settingsOf s) (slotWith x k (now (memory .entry))))) (now (memory .entry)) (now (memory .exit))
+        (now (out .entry)) (now (out .exit)) r ⌝ }
 {
     let flags = CaFlags {
         master: true,
@@ -195,7 +199,8 @@ fn send_first_ca(s: Settings, memory: &mut [u8], k: usize, x: Slot, out: &mut [u
 // The first four requests, which move to the end.
 fn send_csus(s: Settings, memory: &mut [u8], k: usize, x: Slot, out: &mut [u8]) -> usize
     requires { ⌜ (length (now memory) ≡ memorySize) × ((k < 8) × (284 ≤ length (now out))) ⌝ }
-    ensures { λ r. ⌜ SendsCsus k (packetOf (rules.csusOf (settingsOf s) (slotWith x k (now (memory .entry))))) (now (memory .entry)) (now (memory .exit)) (now (out .entry)) (now (out .exit)) r ⌝ }
+    ensures { λ r. ⌜ SendsCsus k (packetOf (rules.csusOf (settingsOf s) (slotWith x k (now (memory .entry))))) (now (memory .entry)) (now (memory .exit))
+        (now (out .entry)) (now (out .exit)) r ⌝ }
 {
     let peer = x.peer;
     let c = alignment::common(s, peer);
@@ -207,8 +212,10 @@ fn send_csus(s: Settings, memory: &mut [u8], k: usize, x: Slot, out: &mut [u8]) 
 
 // The rows that were picked, hop count what remains.
 fn send_update(s: Settings, memory: &[u8], k: usize, x: Slot, picks: Picks, out: &mut [u8]) -> usize
-    requires { ⌜ (length (now memory) ≡ memorySize) × ((284 ≤ length (now out)) × Picked (x .cursor) (nextWaiting (rowsIn (now memory)) k (x .cursor)) picks) ⌝ }
-    ensures { λ r. ⌜ Wrote (packetOf (rules.updateOf (settingsOf s) (rowsIn (now (memory .entry))) k (slotWith x k (now (memory .entry))))) (now (out .entry)) (now (out .exit)) r ⌝ }
+    requires { ⌜ (length (now memory) ≡ memorySize) × ((284 ≤ length (now out)) × Picked (x .cursor)
+        (nextWaiting (rowsIn (now memory)) k (x .cursor)) picks) ⌝ }
+    ensures { λ r. ⌜ Wrote (packetOf (rules.updateOf (settingsOf s) (rowsIn (now (memory .entry))) k (slotWith x k (now (memory .entry)))))
+        (now (out .entry)) (now (out .exit)) r ⌝ }
 {
     let peer = x.peer;
     let c = alignment::common(s, peer);
@@ -263,7 +270,9 @@ fn send(
     out: &mut [u8],
 ) -> Acted
     requires { ⌜ ((length (now memory) ≡ memorySize) × ((k < 8) × (284 ≤ length (now out)))) × GoodPicks (d .due) k x (now memory) (d .picks) ⌝ }
-    ensures { λ r. ⌜ Acts k (rules.dueSlot (dueOf (d .due)) (settingsOf s) time (rowsIn (now (memory .entry))) k (slotWith x k (now (memory .entry)))) (rowsIn (now (memory .entry))) (octetsOf (rules.dueSent (dueOf (d .due)) (settingsOf s) (rowsIn (now (memory .entry))) k (slotWith x k (now (memory .entry))))) (now (memory .entry)) (now (memory .exit)) (now (out .entry)) (now (out .exit)) r ⌝ }
+    ensures { λ r. ⌜ Acts k (rules.dueSlot (dueOf (d .due)) (settingsOf s) time (rowsIn (now (memory .entry))) k (slotWith x k (now (memory .entry))))
+        (rowsIn (now (memory .entry))) (octetsOf (rules.dueSent (dueOf (d .due)) (settingsOf s) (rowsIn (now (memory .entry))) k
+        (slotWith x k (now (memory .entry))))) (now (memory .entry)) (now (memory .exit)) (now (out .entry)) (now (out .exit)) r ⌝ }
 {
     let n = write_due(s, memory, k, x, d, out);
     let slot = slot_due(time, x, d);
@@ -274,7 +283,8 @@ fn send(
 // Past Summarize the kept CA goes 5 seconds after it was last sent.
 fn drop_old(memory: &mut [u8], k: usize, time: u32, x: Slot)
     requires { ⌜ (length (now memory) ≡ memorySize) × (k < 8) ⌝ }
-    ensures { λ _. ⌜ Leaves k (rules.keptDropped time (slotWith x k (now (memory .entry)))) (rowsIn (now (memory .entry))) (now (memory .entry)) (now (memory .exit)) x ⌝ }
+    ensures { λ _. ⌜ Leaves k (rules.keptDropped time (slotWith x k (now (memory .entry)))) (rowsIn (now (memory .entry))) (now (memory .entry))
+        (now (memory .exit)) x ⌝ }
 {
     let l = x.link;
     let a = l.alignment;

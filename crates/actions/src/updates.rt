@@ -33,7 +33,8 @@ use writer::write::Records;
 // A CSU Reply with some records; with none nothing is written.
 fn write_reply(s: Settings, x: Slot, records: Records, out: &mut [u8]) -> usize
     requires { ⌜ 284 ≤ length (now out) ⌝ }
-    ensures { λ r. ⌜ ((qs : List Request) (kept : List ℕ) → Wrote (octetsOf (rules.unlessEmpty (settingsOf s) (slotOf x qs kept) csuReply (writer.summariesOf records))) (now (out .entry)) (now (out .exit)) r) ⌝ }
+    ensures { λ r. ⌜ ((qs : List Request) (kept : List ℕ) → Wrote (octetsOf (rules.unlessEmpty (settingsOf s) (slotOf x qs kept) csuReply
+        (writer.summariesOf records))) (now (out .entry)) (now (out .exit)) r) ⌝ }
 {
     if records.count == 0 {
         return 0;
@@ -45,7 +46,8 @@ fn write_reply(s: Settings, x: Slot, records: Records, out: &mut [u8]) -> usize
 // A CSU Request with some records; with none nothing is written.
 fn write_request(s: Settings, x: Slot, records: Records, out: &mut [u8]) -> usize
     requires { ⌜ 284 ≤ length (now out) ⌝ }
-    ensures { λ r. ⌜ ((qs : List Request) (kept : List ℕ) → Wrote (octetsOf (rules.unlessEmpty (settingsOf s) (slotOf x qs kept) csuRequest (writer.recordsOf records))) (now (out .entry)) (now (out .exit)) r) ⌝ }
+    ensures { λ r. ⌜ ((qs : List Request) (kept : List ℕ) → Wrote (octetsOf (rules.unlessEmpty (settingsOf s) (slotOf x qs kept) csuRequest
+        (writer.recordsOf records))) (now (out .entry)) (now (out .exit)) r) ⌝ }
 {
     if records.count == 0 {
         return 0;
@@ -66,7 +68,8 @@ pub fn take_request(
     out: &mut [u8],
 ) -> Acted
     requires { ⌜ ((length (now memory) ≡ memorySize) × ((k < 8) × (284 ≤ length (now out)))) × Walks (now p) (h .records) ⌝ }
-    ensures { λ r. ⌜ TakesRequest (isMarked live) k (settingsOf s) (recordsOf (now (p .entry)) (h .records)) x (now (memory .entry)) (now (memory .exit)) (now (out .entry)) (now (out .exit)) r ⌝ }
+    ensures { λ r. ⌜ TakesRequest (isMarked live) k (settingsOf s) (recordsOf (now (p .entry)) (h .records)) x (now (memory .entry)) (now (memory .exit))
+        (now (out .entry)) (now (out .exit)) r ⌝ }
 {
     let c = h.records;
     let acknowledged = updates::update_all(memory, live, k, p, c);
@@ -78,7 +81,8 @@ pub fn take_request(
 // A CSU Reply is taken.
 pub fn take_reply(memory: &mut [u8], p: &[u8], h: Head, k: usize, x: Slot) -> Acted
     requires { ⌜ (length (now memory) ≡ memorySize) × ((k < 8) × Walks (now p) (h .records)) ⌝ }
-    ensures { λ r. ⌜ Leaves k (slotWith x k (now (memory .entry))) (allReplied k (recordsOf (now (p .entry)) (h .records)) (rowsIn (now (memory .entry)))) (now (memory .entry)) (now (memory .exit)) (r .slot) × (r .written ≡ 0) ⌝ }
+    ensures { λ r. ⌜ Leaves k (slotWith x k (now (memory .entry))) (allReplied k (recordsOf (now (p .entry)) (h .records)) (rowsIn (now (memory .entry))))
+        (now (memory .entry)) (now (memory .exit)) (r .slot) × (r .written ≡ 0) ⌝ }
 {
     let c = h.records;
     replies::reply_all(memory, k, p, c);
@@ -96,7 +100,10 @@ pub fn take_csus(
     out: &mut [u8],
 ) -> Acted
     requires { ⌜ ((length (now memory) ≡ memorySize) × ((k < 8) × (284 ≤ length (now out)))) × Walks (now p) (h .records) ⌝ }
-    ensures { λ r. ⌜ Acts k (slots.withKept [] (slotWith x k (now (memory .entry)))) (rowsIn (now (memory .entry))) (octetsOf (rules.unlessEmpty (settingsOf s) (slotWith x k (now (memory .entry))) csuRequest (allSolicited (rowsIn (now (memory .entry))) (recordsOf (now (p .entry)) (h .records))))) (now (memory .entry)) (now (memory .exit)) (now (out .entry)) (now (out .exit)) r ⌝ }
+    ensures { λ r. ⌜ Acts k (slots.withKept [] (slotWith x k (now (memory .entry)))) (rowsIn (now (memory .entry)))
+        (octetsOf (rules.unlessEmpty (settingsOf s) (slotWith x k (now (memory .entry))) csuRequest
+        (allSolicited (rowsIn (now (memory .entry))) (recordsOf (now (p .entry)) (h .records))))) (now (memory .entry)) (now (memory .exit))
+        (now (out .entry)) (now (out .exit)) r ⌝ }
 {
     let c = h.records;
     let records = solicited::solicit_all(memory, p, c);

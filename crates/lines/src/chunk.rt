@@ -41,7 +41,8 @@ pub struct Chunk {
 // The line of an answer.
 fn put_answer(text: &mut [u8], at: usize, number: u64, a: Answer, memory: &[u8; 20992]) -> usize
     requires { ⌜ at + 84 ≤ length (now text) ⌝ }
-    ensures { λ r. ⌜ PutsNumbers (number ∷ codeNumber (a .outcome) ∷ a .written ∷ rowsUsed (rowsIn (now (memory .entry))) ∷ []) at (now (text .entry)) (now (text .exit)) r ⌝ }
+    ensures { λ r. ⌜ PutsNumbers (number ∷ codeNumber (a .outcome) ∷ a .written ∷ rowsUsed (rowsIn (now (memory .entry))) ∷ []) at (now (text .entry))
+        (now (text .exit)) r ⌝ }
     ensures most { λ r. ⌜ r ≤ at + 84 ⌝ }
 {
     let outcome = a.outcome;
@@ -74,7 +75,8 @@ fn open_in(
     text: &mut [u8],
 ) -> Opened
     requires { ⌜ length (now text) ≡ 20480 ⌝ }
-    ensures { λ r. ⌜ Opens (now (input .entry)) (now (slots .entry)) (now (slots .exit)) (now (memory .entry)) (now (memory .exit)) (now (text .entry)) (now (text .exit)) r ⌝ }
+    ensures { λ r. ⌜ Opens (now (input .entry)) (now (slots .entry)) (now (slots .exit)) (now (memory .entry)) (now (memory .exit)) (now (text .entry))
+        (now (text .exit)) r ⌝ }
 {
     let answer = take::begin(slots, memory, input);
     let outcome = answer.outcome;
@@ -93,7 +95,8 @@ pub fn open(
     input: &[u8],
     text: &mut [u8; 20480],
 ) -> Opened
-    ensures { λ r. ⌜ Opens (now (input .entry)) (now (slots .entry)) (now (slots .exit)) (now (memory .entry)) (now (memory .exit)) (now (text .entry)) (now (text .exit)) r ⌝ }
+    ensures { λ r. ⌜ Opens (now (input .entry)) (now (slots .entry)) (now (slots .exit)) (now (memory .entry)) (now (memory .exit)) (now (text .entry))
+        (now (text .exit)) r ⌝ }
 {
     open_in(slots, memory, input, text)
 }
@@ -110,7 +113,8 @@ fn one(
     at: usize,
 ) -> Stepped
     requires { ⌜ at + 84 ≤ length (now text) ⌝ }
-    ensures { λ x. ⌜ Lined (recordKind (now (r .entry))) number s (now (slots .entry)) (now (slots .exit)) (now (memory .entry)) (now (memory .exit)) at (now (text .entry)) (now (text .exit)) x ⌝ }
+    ensures { λ x. ⌜ Lined (recordKind (now (r .entry))) number s (now (slots .entry)) (now (slots .exit)) (now (memory .entry)) (now (memory .exit)) at
+        (now (text .entry)) (now (text .exit)) x ⌝ }
 {
     let a = take::take(s, slots, memory, r, out);
     let end = put_answer(text, at, number, a, memory);
@@ -152,7 +156,8 @@ fn replay_in(
     text: &mut [u8],
 ) -> Chunk
     requires { ⌜ length (now text) ≡ 20480 ⌝ }
-    ensures { λ r. ⌜ Chunks (now (input .entry)) last number s (now (slots .entry)) (now (slots .exit)) (now (memory .entry)) (now (memory .exit)) (now (text .entry)) (now (text .exit)) r ⌝ }
+    ensures { λ r. ⌜ Chunks (now (input .entry)) last number s (now (slots .entry)) (now (slots .exit)) (now (memory .entry)) (now (memory .exit))
+        (now (text .entry)) (now (text .exit)) r ⌝ }
 {
     let mut out = [0u8; 284];
     let mut x = s;
@@ -196,7 +201,8 @@ pub fn replay(
     number: u64,
     text: &mut [u8; 20480],
 ) -> Chunk
-    ensures { λ r. ⌜ Chunks (now (input .entry)) last number s (now (slots .entry)) (now (slots .exit)) (now (memory .entry)) (now (memory .exit)) (now (text .entry)) (now (text .exit)) r ⌝ }
+    ensures { λ r. ⌜ Chunks (now (input .entry)) last number s (now (slots .entry)) (now (slots .exit)) (now (memory .entry)) (now (memory .exit))
+        (now (text .entry)) (now (text .exit)) r ⌝ }
 {
     replay_in(s, slots, memory, input, last, number, text)
 }

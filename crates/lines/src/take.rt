@@ -43,7 +43,8 @@ pub fn begin(slots: &mut [usize; 192], memory: &mut [u8; 20992], r: &[u8]) -> An
 
 // A record of an event that writes nothing and has no time, or of none.
 fn take_own(s: Server, slots: &mut [usize; 192], memory: &mut [u8; 20992], r: &[u8]) -> Answer
-    ensures { λ x. ⌜ ((out : List ℕ) → Untimed (now (r .entry)) → Takes (replay.recordKind (now (r .entry))) s (now (slots .entry)) (now (slots .exit)) (now (memory .entry)) (now (memory .exit)) out out x) ⌝ }
+    ensures { λ x. ⌜ ((out : List ℕ) → Untimed (now (r .entry)) → Takes (replay.recordKind (now (r .entry))) s (now (slots .entry)) (now (slots .exit))
+        (now (memory .entry)) (now (memory .exit)) out out x) ⌝ }
 {
     let kind = record::kind(r);
     if kind == 5 {
@@ -69,7 +70,8 @@ fn packet_in(
     out: &mut [u8],
 ) -> Answer
     requires { ⌜ length (now out) ≡ 284 ⌝ }
-    ensures { λ x. ⌜ DoesOut (rules.packet (replay.slotOctet (now (r .entry))) (replay.timeAt (now (r .entry))) (replay.packetIn (now (r .entry))) 284) s (now (slots .entry)) (now (slots .exit)) (now (memory .entry)) (now (memory .exit)) (now (out .entry)) (now (out .exit)) x ⌝ }
+    ensures { λ x. ⌜ DoesOut (rules.packet (replay.slotOctet (now (r .entry))) (replay.timeAt (now (r .entry))) (replay.packetIn (now (r .entry))) 284) s
+        (now (slots .entry)) (now (slots .exit)) (now (memory .entry)) (now (memory .exit)) (now (out .entry)) (now (out .exit)) x ⌝ }
 {
     events::packet(
         s,
@@ -90,7 +92,8 @@ fn poll_in(
     out: &mut [u8],
 ) -> Answer
     requires { ⌜ length (now out) ≡ 284 ⌝ }
-    ensures { λ x. ⌜ DoesOut (rules.poll (replay.slotOctet (now (r .entry))) (replay.timeAt (now (r .entry))) 284) s (now (slots .entry)) (now (slots .exit)) (now (memory .entry)) (now (memory .exit)) (now (out .entry)) (now (out .exit)) x ⌝ }
+    ensures { λ x. ⌜ DoesOut (rules.poll (replay.slotOctet (now (r .entry))) (replay.timeAt (now (r .entry))) 284) s (now (slots .entry))
+        (now (slots .exit)) (now (memory .entry)) (now (memory .exit)) (now (out .entry)) (now (out .exit)) x ⌝ }
 {
     events::poll(s, slots, memory, record::slot(r), record::time(r), out)
 }
@@ -103,7 +106,8 @@ pub fn take(
     r: &[u8],
     out: &mut [u8; 284],
 ) -> Answer
-    ensures { λ x. ⌜ Takes (replay.recordKind (now (r .entry))) s (now (slots .entry)) (now (slots .exit)) (now (memory .entry)) (now (memory .exit)) (now (out .entry)) (now (out .exit)) x ⌝ }
+    ensures { λ x. ⌜ Takes (replay.recordKind (now (r .entry))) s (now (slots .entry)) (now (slots .exit)) (now (memory .entry)) (now (memory .exit))
+        (now (out .entry)) (now (out .exit)) x ⌝ }
 {
     let kind = record::kind(r);
     if kind == 1 {

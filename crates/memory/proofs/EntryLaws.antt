@@ -57,6 +57,10 @@ module _ (e : Entry) (s : List ℕ) where
         p ∙ ap (λ (b : Bool). withRows (pick b (change (holds e) f (rowsIn s)) (filled r (rowsIn s))) (memoryOf s)) (sym (has-none (holds e) (rowsIn s) none))
 
 -- ---- a row that was found, whatever the entry
+pub found-some : (p : Row → Bool) (s : List ℕ) (f : Found) → f ≡ firstFrom p 0 (rowsIn s) → FoundBelow f
+found-some p s (At i) e = found-below p s i (sym e)
+found-some p s Nothing e = tt
+
 pub found-index : (f : Found) (i : ℕ) → FoundBelow f → f ≡ At i → i < rowsMost
 found-index f i b e = subst FoundBelow e b
 
@@ -64,6 +68,10 @@ module _ (found : Found) (s : List ℕ) (f : Row → Row) where
   pub found-marked : (i : ℕ) (t : List ℕ) → found ≡ At i → memoryOf t ≡ changedAt f i s
       → (e : Entry) → found ≡ firstFrom (holds e) 0 (rowsIn s) → memoryOf t ≡ rowsAs (change (holds e) f) s
   found-marked i t a m e g = entry-marked e s i (sym g ∙ a) f t m
+
+  pub found-changed : (i : ℕ) (t : List ℕ) → found ≡ At i → memoryOf t ≡ withRow s i (f (rowIn s i))
+      → (e : Entry) → found ≡ firstFrom (holds e) 0 (rowsIn s) → memoryOf t ≡ rowsAs (change (holds e) f) s
+  found-changed i t a m e g = entry-changed e s i (sym g ∙ a) f t m
 
   pub found-absent : found ≡ Nothing → (e : Entry) → found ≡ firstFrom (holds e) 0 (rowsIn s) → memoryOf s ≡ rowsAs (change (holds e) f) s
   found-absent a e g = entry-absent e s (sym g ∙ a) f

@@ -42,8 +42,10 @@ fn put_entry(
     remaining: u16,
     marks: u8,
 )
-    requires { ⌜ ((length (now memory) ≡ memorySize) × FitsRow (now key) (now originator) (now payload)) × (found ≡ firstFrom (holds (entry (now key) (now originator))) 0 (rowsIn (now memory))) ⌝ }
-    ensures { λ _. ⌜ memoryOf (now (memory .exit)) ≡ rowsAs (putRows (entry (now (key .entry)) (now (originator .entry))) (value number (now (payload .entry)) remaining) (isMarked marks)) (now (memory .entry)) ⌝ }
+    requires { ⌜ ((length (now memory) ≡ memorySize) × FitsRow (now key) (now originator) (now payload))
+        × (found ≡ firstFrom (holds (entry (now key) (now originator))) 0 (rowsIn (now memory))) ⌝ }
+    ensures { λ _. ⌜ memoryOf (now (memory .exit)) ≡ rowsAs (putRows (entry (now (key .entry)) (now (originator .entry)))
+        (value number (now (payload .entry)) remaining) (isMarked marks)) (now (memory .entry)) ⌝ }
 {
     match found {
         Found::At(i) => store::put_value(memory, i, number, payload, remaining, marks),
@@ -65,8 +67,10 @@ pub fn store_record(
     payload: &[u8],
     hops: u16,
 )
-    requires { ⌜ ((length (now memory) ≡ memorySize) × ((k < slotsMost) × FitsRow (now key) (now originator) (now payload))) × (found ≡ firstFrom (holds (entry (now key) (now originator))) 0 (rowsIn (now memory))) ⌝ }
-    ensures { λ _. ⌜ memoryOf (now (memory .exit)) ≡ rowsAs (rowsBy stored (isMarked live) k (received hops number (entry (now (key .entry)) (now (originator .entry))) (now (payload .entry)))) (now (memory .entry)) ⌝ }
+    requires { ⌜ ((length (now memory) ≡ memorySize) × ((k < slotsMost) × FitsRow (now key) (now originator) (now payload)))
+        × (found ≡ firstFrom (holds (entry (now key) (now originator))) 0 (rowsIn (now memory))) ⌝ }
+    ensures { λ _. ⌜ memoryOf (now (memory .exit)) ≡ rowsAs (rowsBy stored (isMarked live) k
+        (received hops number (entry (now (key .entry)) (now (originator .entry))) (now (payload .entry)))) (now (memory .entry)) ⌝ }
 {
     let remaining = one_less(hops);
     let marks = marks::spread_of(live, k, remaining);
@@ -85,7 +89,8 @@ pub fn store_record(
 // A record equal to what is held: the row that was found waits for slot k no more.
 pub fn equal_record(memory: &mut [u8], k: usize, found: Found)
     requires { ⌜ ((length (now memory) ≡ memorySize) × (k < slotsMost)) × FoundBelow found ⌝ }
-    ensures { λ _. ⌜ ((e : Entry) → found ≡ firstFrom (holds e) 0 (rowsIn (now (memory .entry))) → memoryOf (now (memory .exit)) ≡ rowsAs (tables.change (holds e) (unmarked k)) (now (memory .entry))) ⌝ }
+    ensures { λ _. ⌜ ((e : Entry) → found ≡ firstFrom (holds e) 0 (rowsIn (now (memory .entry))) → memoryOf (now (memory .exit))
+        ≡ rowsAs (tables.change (holds e) (unmarked k)) (now (memory .entry))) ⌝ }
 {
     match found {
         Found::At(i) => marks::clear_mark(memory, i, k),
@@ -96,7 +101,8 @@ pub fn equal_record(memory: &mut [u8], k: usize, found: Found)
 // A record older than what is held: the row that was found waits for slot k again.
 pub fn older_record(memory: &mut [u8], k: usize, found: Found)
     requires { ⌜ ((length (now memory) ≡ memorySize) × (k < slotsMost)) × FoundBelow found ⌝ }
-    ensures { λ _. ⌜ ((e : Entry) → found ≡ firstFrom (holds e) 0 (rowsIn (now (memory .entry))) → memoryOf (now (memory .exit)) ≡ rowsAs (tables.change (holds e) (waitsAgain k)) (now (memory .entry))) ⌝ }
+    ensures { λ _. ⌜ ((e : Entry) → found ≡ firstFrom (holds e) 0 (rowsIn (now (memory .entry))) → memoryOf (now (memory .exit))
+        ≡ rowsAs (tables.change (holds e) (waitsAgain k)) (now (memory .entry))) ⌝ }
 {
     match found {
         Found::At(i) => marks::mark_again(memory, i, k),
@@ -107,8 +113,10 @@ pub fn older_record(memory: &mut [u8], k: usize, found: Found)
 // ---- a record of a CSU Reply from slot k
 pub fn reply_record(memory: &mut [u8], k: usize, key: &[u8], originator: &[u8], number: CsaNumber)
     requires { ⌜ ((length (now memory) ≡ memorySize) × (k < slotsMost)) × FitsKey (now key) (now originator) ⌝ }
-    ensures { λ _. ⌜ memoryOf (now (memory .exit)) ≡ rowsAs (tables.change (holds (entry (now (key .entry)) (now (originator .entry)))) (replied k number)) (now (memory .entry)) ⌝ }
-    ensures kept { λ _. ⌜ (tables.has (holds (entry (now (key .entry)) (now (originator .entry)))) (rowsIn (now (memory .entry))) ≡ false → now (memory .exit) ≡ now (memory .entry)) ⌝ }
+    ensures { λ _. ⌜ memoryOf (now (memory .exit)) ≡ rowsAs (tables.change (holds (entry (now (key .entry)) (now (originator .entry)))) (replied k number))
+        (now (memory .entry)) ⌝ }
+    ensures kept { λ _. ⌜ (tables.has (holds (entry (now (key .entry)) (now (originator .entry)))) (rowsIn (now (memory .entry))) ≡ false
+        → now (memory .exit) ≡ now (memory .entry)) ⌝ }
 {
     match rows::find(memory, key, originator) {
         Found::At(i) => marks::reply_mark(memory, i, k, number),
@@ -128,7 +136,8 @@ fn step_of(n: CsaNumber) -> CsaNumber
 
 fn change_row(memory: &mut [u8], live: u8, i: usize, payload: &[u8])
     requires { ⌜ (length (now memory) ≡ memorySize) × ((i < rowsMost) × (length (now payload) ≤ payloadMost)) ⌝ }
-    ensures { λ _. ⌜ memoryOf (now (memory .exit)) ≡ withRow (now (memory .entry)) i (changedRow (isMarked live) (now (payload .entry)) (rowIn (now (memory .entry)) i)) ⌝ }
+    ensures { λ _. ⌜ memoryOf (now (memory .exit)) ≡ withRow (now (memory .entry)) i (changedRow (isMarked live) (now (payload .entry))
+        (rowIn (now (memory .entry)) i)) ⌝ }
 {
     let held = rows::number_of(memory, i);
     let number = step_of(held);
@@ -143,12 +152,21 @@ fn purge_row(memory: &mut [u8], live: u8, i: usize)
     store::put_value(memory, i, CsaNumber(2147483647), &none, 16, live);
 }
 
-// An entry of ours: new, or with another payload.
-pub fn set_entry(memory: &mut [u8], live: u8, key: &[u8], originator: &[u8], payload: &[u8])
-    requires { ⌜ (length (now memory) ≡ memorySize) × FitsRow (now key) (now originator) (now payload) ⌝ }
-    ensures { λ _. ⌜ memoryOf (now (memory .exit)) ≡ rowsAs (setRows (isMarked live) (entry (now (key .entry)) (now (originator .entry))) (now (payload .entry))) (now (memory .entry)) ⌝ }
+// An entry of ours, in the row that was found for it, or new.
+pub fn set_entry(
+    memory: &mut [u8],
+    found: Found,
+    live: u8,
+    key: &[u8],
+    originator: &[u8],
+    payload: &[u8],
+)
+    requires { ⌜ ((length (now memory) ≡ memorySize) × FitsRow (now key) (now originator) (now payload))
+        × (found ≡ firstFrom (holds (entry (now key) (now originator))) 0 (rowsIn (now memory))) ⌝ }
+    ensures { λ _. ⌜ memoryOf (now (memory .exit)) ≡ rowsAs (setRows (isMarked live) (entry (now (key .entry)) (now (originator .entry)))
+        (now (payload .entry))) (now (memory .entry)) ⌝ }
 {
-    match rows::find(memory, key, originator) {
+    match found {
         Found::At(i) => change_row(memory, live, i, payload),
         Found::Nothing => {
             store::insert(
@@ -165,25 +183,25 @@ pub fn set_entry(memory: &mut [u8], live: u8, key: &[u8], originator: &[u8], pay
 }
 
 // The payload becomes empty; the row is kept.
-pub fn withdraw_entry(memory: &mut [u8], live: u8, key: &[u8], originator: &[u8])
-    requires { ⌜ (length (now memory) ≡ memorySize) × FitsKey (now key) (now originator) ⌝ }
-    ensures { λ _. ⌜ memoryOf (now (memory .exit)) ≡ rowsAs (withdrawRows (isMarked live) (entry (now (key .entry)) (now (originator .entry)))) (now (memory .entry)) ⌝ }
-    ensures kept { λ _. ⌜ (tables.has (holds (entry (now (key .entry)) (now (originator .entry)))) (rowsIn (now (memory .entry))) ≡ false → now (memory .exit) ≡ now (memory .entry)) ⌝ }
+pub fn withdraw_entry(memory: &mut [u8], live: u8, found: Found)
+    requires { ⌜ (length (now memory) ≡ memorySize) × FoundBelow found ⌝ }
+    ensures { λ _. ⌜ ((e : Entry) → found ≡ firstFrom (holds e) 0 (rowsIn (now (memory .entry))) → memoryOf (now (memory .exit))
+        ≡ rowsAs (withdrawRows (isMarked live) e) (now (memory .entry))) ⌝ }
 {
     let none = [0u8; 0];
-    match rows::find(memory, key, originator) {
+    match found {
         Found::At(i) => change_row(memory, live, i, &none),
         Found::Nothing => {}
     }
 }
 
 // The entry gets the last number, and no payload.
-pub fn purge_entry(memory: &mut [u8], live: u8, key: &[u8], originator: &[u8])
-    requires { ⌜ (length (now memory) ≡ memorySize) × FitsKey (now key) (now originator) ⌝ }
-    ensures { λ _. ⌜ memoryOf (now (memory .exit)) ≡ rowsAs (purgeRows (isMarked live) (entry (now (key .entry)) (now (originator .entry)))) (now (memory .entry)) ⌝ }
-    ensures kept { λ _. ⌜ (tables.has (holds (entry (now (key .entry)) (now (originator .entry)))) (rowsIn (now (memory .entry))) ≡ false → now (memory .exit) ≡ now (memory .entry)) ⌝ }
+pub fn purge_entry(memory: &mut [u8], live: u8, found: Found)
+    requires { ⌜ (length (now memory) ≡ memorySize) × FoundBelow found ⌝ }
+    ensures { λ _. ⌜ ((e : Entry) → found ≡ firstFrom (holds e) 0 (rowsIn (now (memory .entry))) → memoryOf (now (memory .exit))
+        ≡ rowsAs (purgeRows (isMarked live) e) (now (memory .entry))) ⌝ }
 {
-    match rows::find(memory, key, originator) {
+    match found {
         Found::At(i) => purge_row(memory, live, i),
         Found::Nothing => {}
     }

@@ -24,7 +24,8 @@ fn put_in(b: [u8; 20], at: usize, src: &[u8]) -> [u8; 20]
 
 pub fn of_entry(key: &[u8], originator: &[u8]) -> Name
     requires { ⌜ FitsKey (now key) (now originator) ⌝ }
-    ensures { λ r. ⌜ (take (r .len) (r .octets) ≡ now (key .entry) ++ now (originator .entry)) × ((r .len ≡ length (now (key .entry)) + 4) × (length (r .octets) ≡ 20)) ⌝ }
+    ensures { λ r. ⌜ (take (r .len) (r .octets) ≡ now (key .entry) ++ now (originator .entry))
+        × ((r .len ≡ length (now (key .entry)) + 4) × (length (r .octets) ≡ 20)) ⌝ }
 {
     let n = key.len();
     let b = [0u8; 20];

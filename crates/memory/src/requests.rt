@@ -111,7 +111,8 @@ fn find(memory: &[u8], k: usize, key: &[u8], originator: &[u8]) -> usize
 fn raise(memory: &mut [u8], k: usize, i: usize, key: &[u8], originator: &[u8], number: CsaNumber)
     requires { ⌜ ((k < 8) × (i < 64)) × (((length (now key) ≤ 16) × (length (now originator) ≡ 4)) × (length (now memory) ≡ memorySize)) ⌝ }
     requires { ⌜ rules.asks (entry (now key) (now originator)) (getD (roomsIn (now memory) k) i noRequest) ≡ true ⌝ }
-    ensures { λ _. ⌜ Listed k (field2 (now (memory .entry)) (listPlace k)) (set (roomsIn (now (memory .entry)) k) i (rules.raised number (getD (roomsIn (now (memory .entry)) k) i noRequest))) (now (memory .entry)) (now (memory .exit)) ⌝ }
+    ensures { λ _. ⌜ Listed k (field2 (now (memory .entry)) (listPlace k)) (set (roomsIn (now (memory .entry)) k) i
+        (rules.raised number (getD (roomsIn (now (memory .entry)) k) i noRequest))) (now (memory .entry)) (now (memory .exit)) ⌝ }
 {
     if numbers::newer(number, number_at(memory, k, i)) {
         room::put_request(memory, k, i, key, originator, number);
@@ -121,7 +122,11 @@ fn raise(memory: &mut [u8], k: usize, i: usize, key: &[u8], originator: &[u8], n
 // A request behind the n that there are.
 fn append(memory: &mut [u8], k: usize, n: usize, key: &[u8], originator: &[u8], number: CsaNumber)
     requires { ⌜ ((k < 8) × (n < 64)) × (((length (now key) ≤ 16) × (length (now originator) ≡ 4)) × (length (now memory) ≡ memorySize)) ⌝ }
-    ensures { λ _. ⌜ Listed k (n + 1) (set (roomsIn (now (memory .entry)) k) n (record { entry = entry (now (key .entry)) (now (originator .entry)); number = number })) (now (memory .entry)) (now (memory .exit)) ⌝ }
+    ensures { λ _. ⌜ Listed k (n + 1) (set (roomsIn (now (memory .entry)) k) n (record {
+      entry = entry (now (key .entry))
+          (now (originator .entry));
+      number = number;
+    })) (now (memory .entry)) (now (memory .exit)) ⌝ }
 {
     room::put_request(memory, k, n, key, originator, number);
     set_count(memory, k, n + 1)
@@ -196,7 +201,8 @@ fn sift_one(
     number: CsaNumber,
 ) -> usize
     requires { ⌜ (k < 8) × (((i < 64) × (w ≤ i)) × (length (now memory) ≡ memorySize)) ⌝ }
-    ensures { λ r. ⌜ lists.Sifts k (lists.goes all (entry (now (key .entry)) (now (originator .entry))) number) i w (now (memory .entry)) (now (memory .exit)) r ⌝ }
+    ensures { λ r. ⌜ lists.Sifts k (lists.goes all (entry (now (key .entry)) (now (originator .entry))) number) i w (now (memory .entry))
+        (now (memory .exit)) r ⌝ }
 {
     if goes(memory, k, i, key, originator, all, number) {
         return w;
@@ -211,8 +217,10 @@ fn sift_one(
 // The requests that stay move up, in order. Where none goes, no octet is written.
 fn sift(memory: &mut [u8], k: usize, key: &[u8], originator: &[u8], all: bool, number: CsaNumber)
     requires { ⌜ (k < 8) × (length (now memory) ≡ memorySize) ⌝ }
-    ensures { λ _. ⌜ memoryOf (now (memory .exit)) ≡ withRequests k (without (lists.goes all (entry (now (key .entry)) (now (originator .entry))) number) (requestsOf (memoryOf (now (memory .entry))) k)) (memoryOf (now (memory .entry))) ⌝ }
-    ensures kept { λ _. ⌜ (has (lists.goes all (entry (now (key .entry)) (now (originator .entry))) number) (requestsOf (memoryOf (now (memory .entry))) k) ≡ false → now (memory .exit) ≡ now (memory .entry)) ⌝ }
+    ensures { λ _. ⌜ memoryOf (now (memory .exit)) ≡ withRequests k (without (lists.goes all (entry (now (key .entry)) (now (originator .entry))) number)
+        (requestsOf (memoryOf (now (memory .entry))) k)) (memoryOf (now (memory .entry))) ⌝ }
+    ensures kept { λ _. ⌜ (has (lists.goes all (entry (now (key .entry)) (now (originator .entry))) number) (requestsOf (memoryOf (now (memory .entry))) k)
+        ≡ false → now (memory .exit) ≡ now (memory .entry)) ⌝ }
 {
     let n = count(memory, k);
     let mut w: usize = 0;
@@ -229,8 +237,10 @@ fn sift(memory: &mut [u8], k: usize, key: &[u8], originator: &[u8], all: bool, n
 // The entry's request goes if its number is no greater.
 pub fn acknowledge(memory: &mut [u8], k: usize, key: &[u8], originator: &[u8], number: CsaNumber)
     requires { ⌜ (k < 8) × (length (now memory) ≡ memorySize) ⌝ }
-    ensures { λ _. ⌜ memoryOf (now (memory .exit)) ≡ withRequests k (rules.acknowledged (entry (now (key .entry)) (now (originator .entry))) number (requestsOf (memoryOf (now (memory .entry))) k)) (memoryOf (now (memory .entry))) ⌝ }
-    ensures kept { λ _. ⌜ (has (lists.goes false (entry (now (key .entry)) (now (originator .entry))) number) (requestsOf (memoryOf (now (memory .entry))) k) ≡ false → now (memory .exit) ≡ now (memory .entry)) ⌝ }
+    ensures { λ _. ⌜ memoryOf (now (memory .exit)) ≡ withRequests k (rules.acknowledged (entry (now (key .entry)) (now (originator .entry))) number
+        (requestsOf (memoryOf (now (memory .entry))) k)) (memoryOf (now (memory .entry))) ⌝ }
+    ensures kept { λ _. ⌜ (has (lists.goes false (entry (now (key .entry)) (now (originator .entry))) number)
+        (requestsOf (memoryOf (now (memory .entry))) k) ≡ false → now (memory .exit) ≡ now (memory .entry)) ⌝ }
 {
     sift(memory, k, key, originator, false, number)
 }
@@ -238,8 +248,10 @@ pub fn acknowledge(memory: &mut [u8], k: usize, key: &[u8], originator: &[u8], n
 // The entry's request goes.
 pub fn drop_entry(memory: &mut [u8], k: usize, key: &[u8], originator: &[u8])
     requires { ⌜ (k < 8) × (length (now memory) ≡ memorySize) ⌝ }
-    ensures { λ _. ⌜ memoryOf (now (memory .exit)) ≡ withRequests k (rules.dropped (entry (now (key .entry)) (now (originator .entry))) (requestsOf (memoryOf (now (memory .entry))) k)) (memoryOf (now (memory .entry))) ⌝ }
-    ensures kept { λ _. ⌜ (has (rules.asks (entry (now (key .entry)) (now (originator .entry)))) (requestsOf (memoryOf (now (memory .entry))) k) ≡ false → now (memory .exit) ≡ now (memory .entry)) ⌝ }
+    ensures { λ _. ⌜ memoryOf (now (memory .exit)) ≡ withRequests k (rules.dropped (entry (now (key .entry)) (now (originator .entry)))
+        (requestsOf (memoryOf (now (memory .entry))) k)) (memoryOf (now (memory .entry))) ⌝ }
+    ensures kept { λ _. ⌜ (has (rules.asks (entry (now (key .entry)) (now (originator .entry)))) (requestsOf (memoryOf (now (memory .entry))) k) ≡ false
+        → now (memory .exit) ≡ now (memory .entry)) ⌝ }
 {
     sift(memory, k, key, originator, true, CsaNumber(0))
 }
@@ -248,7 +260,8 @@ pub fn drop_entry(memory: &mut [u8], k: usize, key: &[u8], originator: &[u8])
 // Each request up to `last` but the first moves one room up.
 fn move_up(memory: &mut [u8], k: usize, last: usize)
     requires { ⌜ (k < 8) × ((last < 64) × (length (now memory) ≡ memorySize)) ⌝ }
-    ensures { λ _. ⌜ Listed k (field2 (now (memory .entry)) (listPlace k)) (lists.movedUp last (roomsIn (now (memory .entry)) k)) (now (memory .entry)) (now (memory .exit)) ⌝ }
+    ensures { λ _. ⌜ Listed k (field2 (now (memory .entry)) (listPlace k)) (lists.movedUp last (roomsIn (now (memory .entry)) k)) (now (memory .entry))
+        (now (memory .exit)) ⌝ }
 {
     let mut i: usize = 0;
     while i < last {
@@ -260,7 +273,8 @@ fn move_up(memory: &mut [u8], k: usize, last: usize)
 // The first request moves to the room `last`.
 fn turn(memory: &mut [u8], k: usize, last: usize)
     requires { ⌜ (k < 8) × ((last < 64) × (length (now memory) ≡ memorySize)) ⌝ }
-    ensures { λ _. ⌜ Listed k (field2 (now (memory .entry)) (listPlace k)) (lists.turned last (roomsIn (now (memory .entry)) k)) (now (memory .entry)) (now (memory .exit)) ⌝ }
+    ensures { λ _. ⌜ Listed k (field2 (now (memory .entry)) (listPlace k)) (lists.turned last (roomsIn (now (memory .entry)) k)) (now (memory .entry))
+        (now (memory .exit)) ⌝ }
 {
     let q = room::lift(memory, k, 0);
     move_up(memory, k, last);
@@ -279,7 +293,8 @@ fn at_most_four(n: usize) -> usize
 // The first four requests, or all, move to the end.
 pub fn rotate(memory: &mut [u8], k: usize)
     requires { ⌜ (k < 8) × (length (now memory) ≡ memorySize) ⌝ }
-    ensures { λ _. ⌜ memoryOf (now (memory .exit)) ≡ withRequests k (rules.rotated (requestsOf (memoryOf (now (memory .entry))) k)) (memoryOf (now (memory .entry))) ⌝ }
+    ensures { λ _. ⌜ memoryOf (now (memory .exit)) ≡ withRequests k (rules.rotated (requestsOf (memoryOf (now (memory .entry))) k))
+        (memoryOf (now (memory .entry))) ⌝ }
 {
     let n = count(memory, k);
     let turns = at_most_four(n);

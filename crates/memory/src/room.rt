@@ -76,14 +76,16 @@ pub fn lift(memory: &[u8], k: usize, i: usize) -> [u8; 28]
 
 pub fn lay(memory: &mut [u8], k: usize, i: usize, q: &[u8])
     requires { ⌜ (k < 8) × ((i < 64) × ((length (now q) ≡ 28) × (length (now memory) ≡ memorySize))) ⌝ }
-    ensures { λ _. ⌜ Listed k (field2 (now (memory .entry)) (listPlace k)) (set (roomsIn (now (memory .entry)) k) i (requestOf (now (q .entry)))) (now (memory .entry)) (now (memory .exit)) ⌝ }
+    ensures { λ _. ⌜ Listed k (field2 (now (memory .entry)) (listPlace k)) (set (roomsIn (now (memory .entry)) k) i (requestOf (now (q .entry))))
+        (now (memory .entry)) (now (memory .exit)) ⌝ }
 {
     octets::put(memory, place(k, i), q);
 }
 
 pub fn copy_request(memory: &mut [u8], k: usize, from: usize, to: usize)
     requires { ⌜ (k < 8) × ((from < 64) × ((to < 64) × (length (now memory) ≡ memorySize))) ⌝ }
-    ensures { λ _. ⌜ Listed k (field2 (now (memory .entry)) (listPlace k)) (set (roomsIn (now (memory .entry)) k) to (getD (roomsIn (now (memory .entry)) k) from noRequest)) (now (memory .entry)) (now (memory .exit)) ⌝ }
+    ensures { λ _. ⌜ Listed k (field2 (now (memory .entry)) (listPlace k)) (set (roomsIn (now (memory .entry)) k) to
+        (getD (roomsIn (now (memory .entry)) k) from noRequest)) (now (memory .entry)) (now (memory .exit)) ⌝ }
 {
     let q = lift(memory, k, from);
     lay(memory, k, to, &q)
@@ -130,7 +132,8 @@ pub fn put_request(
     number: CsaNumber,
 )
     requires { ⌜ ((k < 8) × (i < 64)) × (((length (now key) ≤ 16) × (length (now originator) ≡ 4)) × (length (now memory) ≡ memorySize)) ⌝ }
-    ensures { λ _. ⌜ Listed k (field2 (now (memory .entry)) (listPlace k)) (set (roomsIn (now (memory .entry)) k) i (record { entry = entry (now (key .entry)) (now (originator .entry)); number = number })) (now (memory .entry)) (now (memory .exit)) ⌝ }
+    ensures { λ _. ⌜ Listed k (field2 (now (memory .entry)) (listPlace k)) (set (roomsIn (now (memory .entry)) k) i
+        (record { entry = entry (now (key .entry)) (now (originator .entry)); number = number })) (now (memory .entry)) (now (memory .exit)) ⌝ }
 {
     let q = pack(key, originator, number);
     lay(memory, k, i, &q)

@@ -103,7 +103,8 @@ pub fn entry_of(memory: &[u8], i: usize, n: usize) -> &[u8]
 // Key, originator and payload, one behind the other.
 pub fn body_of(memory: &[u8], i: usize, n: usize) -> &[u8]
     requires { ⌜ ((length (now memory) ≡ memorySize) × (i < rowsMost)) × (n ≡ length (rowEntry (now memory) i .key)) ⌝ }
-    ensures { λ r. ⌜ now r ≡ (rowEntry (now (memory .entry)) i .key ++ rowEntry (now (memory .entry)) i .originator) ++ valueAt (now (memory .entry)) i .payload ⌝ }
+    ensures { λ r. ⌜ now r ≡ (rowEntry (now (memory .entry)) i .key ++ rowEntry (now (memory .entry)) i .originator) ++ valueAt
+        (now (memory .entry)) i .payload ⌝ }
 {
     around(memory, i, n, payload_len(memory, i))
 }

@@ -67,7 +67,8 @@ pub fn put_value(
     marks: u8,
 )
     requires { ⌜ ((length (now memory) ≡ memorySize) × (i < rowsMost)) × (length (now payload) ≤ payloadMost) ⌝ }
-    ensures { λ _. ⌜ memoryOf (now (memory .exit)) ≡ withRow (now (memory .entry)) i (revalued (value number (now (payload .entry)) remaining) (isMarked marks) (rowIn (now (memory .entry)) i)) ⌝ }
+    ensures { λ _. ⌜ memoryOf (now (memory .exit)) ≡ withRow (now (memory .entry)) i (revalued (value number (now (payload .entry)) remaining)
+        (isMarked marks) (rowIn (now (memory .entry)) i)) ⌝ }
 {
     let at = i * ROW_SIZE + NAME_PLACE + rows::key_room(memory, i) + ID;
     put_head(
@@ -100,8 +101,10 @@ pub fn put_row(
     remaining: u16,
     marks: u8,
 )
-    requires { ⌜ ((length (now memory) ≡ memorySize) × (i < rowsMost)) × (((4 < length (now name)) × (length (now name) ≤ 20)) × (length (now payload) ≤ payloadMost)) ⌝ }
-    ensures { λ _. ⌜ memoryOf (now (memory .exit)) ≡ withRow (now (memory .entry)) i (used (entryNamed (now (name .entry))) (value number (now (payload .entry)) remaining) (isMarked marks)) ⌝ }
+    requires { ⌜ ((length (now memory) ≡ memorySize) × (i < rowsMost)) × (((4 < length (now name)) × (length (now name) ≤ 20))
+        × (length (now payload) ≤ payloadMost)) ⌝ }
+    ensures { λ _. ⌜ memoryOf (now (memory .exit)) ≡ withRow (now (memory .entry)) i (used (entryNamed (now (name .entry)))
+        (value number (now (payload .entry)) remaining) (isMarked marks)) ⌝ }
 {
     let tag = tags::tag_of(name);
     put_head(
@@ -128,7 +131,8 @@ pub fn insert(
     marks: u8,
 ) -> Inserted
     requires { ⌜ (length (now memory) ≡ memorySize) × FitsRow (now key) (now originator) (now payload) ⌝ }
-    ensures { λ r. ⌜ Inserts (used (entry (now (key .entry)) (now (originator .entry))) (value number (now (payload .entry)) remaining) (isMarked marks)) (now (memory .entry)) (now (memory .exit)) r ⌝ }
+    ensures { λ r. ⌜ Inserts (used (entry (now (key .entry)) (now (originator .entry))) (value number (now (payload .entry)) remaining) (isMarked marks))
+        (now (memory .entry)) (now (memory .exit)) r ⌝ }
 {
     match rows::free_row(memory) {
         Found::At(i) => {

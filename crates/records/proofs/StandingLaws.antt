@@ -17,9 +17,8 @@ use Rattle.rules.specs.Updates.{UpdateRule, null, purgeAbsent, full, stored, eq
 use Rattle.memory.specs.declared.rows.Found.{Found}
 use Rattle.memory.specs.declared.rows.Found.the-variants.{At, Nothing}
 use Rattle.memory.specs.Memory.{valueAt, rowsIn}
-use Rattle.memory.specs.Search.{entry, FitsKey, FoundBelow, firstFrom}
+use Rattle.memory.specs.Search.{entry, FitsKey, firstFrom}
 use Rattle.records.specs.Walks.{Fits}
-use Rattle.memory.proofs.RowInsert.{found-below}
 use Rattle.memory.proofs.EntryLaws.{found-entry, none-entry}
 
 module _ (s : List ℕ) (r : CsaRecord) where
@@ -31,10 +30,6 @@ module _ (s : List ℕ) (r : CsaRecord) where
   pub for-key : (x : Found) (k o : List ℕ) → x ≡ firstFrom (holds (entryOf r)) 0 (rowsIn s) → k ≡ r .key → o ≡ r .originator
       → x ≡ firstFrom (holds (entry k o)) 0 (rowsIn s)
   for-key x k o e a b = e ∙ (λ i. firstFrom (holds (entry (sym a i) (sym b i))) 0 (rowsIn s))
-
-  pub below-rows : (x : Found) → x ≡ firstFrom (holds (entryOf r)) 0 (rowsIn s) → FoundBelow x
-  below-rows (At i) e = found-below (holds (entryOf r)) s i (sym e)
-  below-rows Nothing e = tt
 
   pub fits-key : (k o : List ℕ) → k ≡ r .key → o ≡ r .originator → Fits r → FitsKey k o
   fits-key k o a b f = ((rw a (f .some-key), rw a (f .key-fits)), ap length b ∙ f .originator-fits)

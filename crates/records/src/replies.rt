@@ -19,7 +19,8 @@ use wire::record::NextRecord;
 
 fn reply_one(memory: &mut [u8], k: usize, p: &[u8], v: Csa)
     requires { ⌜ (length (now memory) ≡ memorySize) × ((k < 8) × Fits (csaRecordOf (now p) v)) ⌝ }
-    ensures { λ _. ⌜ memoryOf (now (memory .exit)) ≡ rowsAs (change (holds (entryOf (csaRecordOf (now (p .entry)) v))) (replied k (v .number))) (now (memory .entry)) ⌝ }
+    ensures { λ _. ⌜ memoryOf (now (memory .exit)) ≡ rowsAs (change (holds (entryOf (csaRecordOf (now (p .entry)) v))) (replied k (v .number)))
+        (now (memory .entry)) ⌝ }
 {
     entries::reply_record(
         memory,

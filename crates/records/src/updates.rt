@@ -31,8 +31,10 @@ use writer::write::Records;
 
 // What a record from slot k does to the rows.
 fn rows_by(memory: &mut [u8], rule: UpdateRule, found: Found, live: u8, k: usize, p: &[u8], v: Csa)
-    requires { ⌜ ((length (now memory) ≡ memorySize) × ((k < 8) × Fits (csaRecordOf (now p) v))) × (found ≡ firstFrom (holds (entryOf (csaRecordOf (now p) v))) 0 (rowsIn (now memory))) ⌝ }
-    ensures { λ _. ⌜ memoryOf (now (memory .exit)) ≡ rowsAs (rules.rowsBy (ruleOf rule) (isMarked live) k (csaRecordOf (now (p .entry)) v)) (now (memory .entry)) ⌝ }
+    requires { ⌜ ((length (now memory) ≡ memorySize) × ((k < 8) × Fits (csaRecordOf (now p) v)))
+        × (found ≡ firstFrom (holds (entryOf (csaRecordOf (now p) v))) 0 (rowsIn (now memory))) ⌝ }
+    ensures { λ _. ⌜ memoryOf (now (memory .exit)) ≡ rowsAs (rules.rowsBy (ruleOf rule) (isMarked live) k (csaRecordOf (now (p .entry)) v))
+        (now (memory .entry)) ⌝ }
 {
     match rule {
         UpdateRule::Null => {}
@@ -56,7 +58,8 @@ fn rows_by(memory: &mut [u8], rule: UpdateRule, found: Found, live: u8, k: usize
 
 fn acknowledge(memory: &mut [u8], k: usize, p: &[u8], v: Csa)
     requires { ⌜ (length (now memory) ≡ memorySize) × (k < 8) ⌝ }
-    ensures { λ _. ⌜ memoryOf (now (memory .exit)) ≡ withRequests k (rules.requestsBy rules.equal (csaRecordOf (now (p .entry)) v) (requestsOf (memoryOf (now (memory .entry))) k)) (memoryOf (now (memory .entry))) ⌝ }
+    ensures { λ _. ⌜ memoryOf (now (memory .exit)) ≡ withRequests k (rules.requestsBy rules.equal (csaRecordOf (now (p .entry)) v)
+        (requestsOf (memoryOf (now (memory .entry))) k)) (memoryOf (now (memory .entry))) ⌝ }
 {
     requests::acknowledge(
         memory,
@@ -70,7 +73,8 @@ fn acknowledge(memory: &mut [u8], k: usize, p: &[u8], v: Csa)
 // What it does to the slot's requests.
 fn requests_by(memory: &mut [u8], rule: UpdateRule, k: usize, p: &[u8], v: Csa)
     requires { ⌜ (length (now memory) ≡ memorySize) × (k < 8) ⌝ }
-    ensures { λ _. ⌜ memoryOf (now (memory .exit)) ≡ withRequests k (rules.requestsBy (ruleOf rule) (csaRecordOf (now (p .entry)) v) (requestsOf (memoryOf (now (memory .entry))) k)) (memoryOf (now (memory .entry))) ⌝ }
+    ensures { λ _. ⌜ memoryOf (now (memory .exit)) ≡ withRequests k (rules.requestsBy (ruleOf rule) (csaRecordOf (now (p .entry)) v)
+        (requestsOf (memoryOf (now (memory .entry))) k)) (memoryOf (now (memory .entry))) ⌝ }
 {
     match rule {
         UpdateRule::Null => {
@@ -115,7 +119,8 @@ fn came(p: &[u8], v: Csa) -> CsaValue
 // The acknowledged records, with this one if it is.
 fn reply_by(rule: UpdateRule, r: Records, p: &[u8], v: Csa) -> Records
     requires { ⌜ (r .count < 4) × Fits (csaRecordOf (now p) v) ⌝ }
-    ensures { λ x. ⌜ (writer.recordsOf x ≡ pick (rules.isAcknowledged (ruleOf rule)) (writer.recordsOf r ++ (csaRecordOf (now (p .entry)) v ∷ [])) (writer.recordsOf r)) × (x .count ≤ r .count + 1) ⌝ }
+    ensures { λ x. ⌜ (writer.recordsOf x ≡ pick (rules.isAcknowledged (ruleOf rule)) (writer.recordsOf r ++ (csaRecordOf (now (p .entry)) v ∷ []))
+        (writer.recordsOf r)) × (x .count ≤ r .count + 1) ⌝ }
 {
     if is_acknowledged(rule) {
         return list::push(r, came(p, v));

@@ -7,7 +7,7 @@ use mathlib.Core.List.{List, [], _∷_}
 use native.Mathlib.Omega.{arith}
 use lib.Dec.{eqb, ltb, leb}
 use lib.ListN.{length}
-use borrow.Author.Tests.{ltb-true, leb-true, eq-eqb, ne-eqb, lt-ltb}
+use borrow.Author.Tests.{ltb-true, leb-true, ne-eqb, lt-ltb}
 use Rattle.laws.specs.Lists.{isEmpty}
 use Rattle.laws.specs.Tables.{has}
 use Rattle.laws.proofs.Bools.{and-true}
@@ -21,7 +21,6 @@ use Rattle.rules.specs.Sent.{octetsOf}
 use Rattle.rules.specs.Refusals.{ownKeyGood, ownPayloadGood, ownEntry, rowSpent, rowPurged, rowEmpty, setCode, withdrawCode, purgeCode}
 use Rattle.rules.specs.Events as events
 use Rattle.rules.specs.Events.{Event, liveIn, codeOf, acted, sentBy}
-use Rattle.rules.proofs.CodeTold.{set-told}
 use Rattle.memory.specs.Memory.{valueAt, rowIn, rowsIn, Memory, memoryOf, withRows}
 use Rattle.memory.specs.Search.{FitsKey, FitsRow, firstFrom}
 use Rattle.memory.specs.Entries.{rowsAs}
@@ -146,36 +145,17 @@ module _ (s : rules.Server) (key : List ℕ) where
         pub purge-taken : o .purged ≡ false → 0 ≡ purgeCode s key
         purge-taken f = rw (good, is-free {b = false} h, is-purged f)
 
--- a key and a payload that are taken fit a row
-pub set-fits : (s : rules.Server) (key p : List ℕ) (o : Outcome) → codeNumber o ≡ setCode s key p → o ≡ Taken → length (s .settings .id) ≡ 4
-    → FitsRow key (s .settings .id) p
-set-fits s key p o c t n =
-    let f = set-told s key p (eq-eqb (setCode s key p) 0 (sym c ∙ ap codeNumber t)) in
-    let k = and-true (ltb 0 (length key)) (leb (length key) 16) (f .0 .0) in
-    let q = and-true (ltb 0 (length p)) (leb (length p) 32) (f .0 .1) in
-    record {
-      some-key = omega (arith, ltb-true 0 (length key) (k .0));
-      key-fits = leb-true (length key) 16 (k .1);
-      originator-fits = n;
-      payload-fits = leb-true (length p) 32 (q .1);
-    }
-
--- the key of a taken change
+-- a key and a payload that are good fit a row
 pub key-room : (key id : List ℕ) → ownKeyGood key ≡ true → length id ≡ 4 → FitsKey key id
 key-room key id g n =
     let k = and-true (ltb 0 (length key)) (leb (length key) 16) g in
     ((omega (arith, ltb-true 0 (length key) (k .0)), leb-true (length key) 16 (k .1)), n)
 
-key-told : (b : Bool) (key : List ℕ) (code : ℕ) → ownKeyGood key ≡ b → (ownKeyGood key ≡ false → 17 ≡ code) → code ≡ 0 → ownKeyGood key ≡ true
-key-told true key code e f z = e
-key-told false key code e f z = absurd (omega (arith, f e, z))
-
-module _ (s : rules.Server) (key : List ℕ) (o : Outcome) (t : o ≡ Taken) (n : length (s .settings .id) ≡ 4) where
-  pub withdraw-fits : codeNumber o ≡ withdrawCode s key → FitsKey key (s .settings .id)
-  withdraw-fits c = key-room key (s .settings .id) (key-told (ownKeyGood key) key (withdrawCode s key) refl (withdraw-key s key) (sym c ∙ ap codeNumber t)) n
-
-  pub purge-fits : codeNumber o ≡ purgeCode s key → FitsKey key (s .settings .id)
-  purge-fits c = key-room key (s .settings .id) (key-told (ownKeyGood key) key (purgeCode s key) refl (purge-key s key) (sym c ∙ ap codeNumber t)) n
+pub row-room : (key id p : List ℕ) → ownKeyGood key ≡ true → ownPayloadGood p ≡ true → length id ≡ 4 → FitsRow key id p
+row-room key id p g h n =
+    let k = key-room key id g n in
+    let q = and-true (ltb 0 (length p)) (leb (length p) 32) h in
+    record { some-key = k .0 .0; key-fits = k .0 .1; originator-fits = n; payload-fits = leb-true (length p) 32 (q .1) }
 
 -- ---- a taken change
 -- the rows are changed, then swept

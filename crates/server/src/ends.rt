@@ -77,7 +77,8 @@ pub fn finish(
     changes: bool,
 ) -> Server
     requires { ⌜ (length (now slots) ≡ tableSize) × ((length (now memory) ≡ memorySize) × (k < 8)) ⌝ }
-    ensures { λ r. ⌜ serverOf r (now (slots .exit)) (now (memory .exit)) ≡ ended (sweepsAt changes (now (slots .entry)) k x) k time (slotWith x k (now (memory .entry))) (serverOf s (now (slots .entry)) (now (memory .entry))) ⌝ }
+    ensures { λ r. ⌜ serverOf r (now (slots .exit)) (now (memory .exit)) ≡ ended (sweepsAt changes (now (slots .entry)) k x) k time
+        (slotWith x k (now (memory .entry))) (serverOf s (now (slots .entry)) (now (memory .entry))) ⌝ }
 {
     let link = x.link;
     let to = link.alignment;

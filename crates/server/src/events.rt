@@ -65,7 +65,8 @@ pub fn packet(
     p: &[u8],
     out: &mut [u8],
 ) -> Answer
-    ensures { λ r. ⌜ DoesOut (events.packet slot time (now (p .entry)) (length (now (out .entry)))) s (now (slots .entry)) (now (slots .exit)) (now (memory .entry)) (now (memory .exit)) (now (out .entry)) (now (out .exit)) r ⌝ }
+    ensures { λ r. ⌜ DoesOut (events.packet slot time (now (p .entry)) (length (now (out .entry)))) s (now (slots .entry)) (now (slots .exit))
+        (now (memory .entry)) (now (memory .exit)) (now (out .entry)) (now (out .exit)) r ⌝ }
 {
     octets::bounded(p);
     packet::packet(s, slots, memory, slot, time, p, out)
@@ -79,7 +80,8 @@ pub fn poll(
     time: u32,
     out: &mut [u8],
 ) -> Answer
-    ensures { λ r. ⌜ DoesOut (events.poll slot time (length (now (out .entry)))) s (now (slots .entry)) (now (slots .exit)) (now (memory .entry)) (now (memory .exit)) (now (out .entry)) (now (out .exit)) r ⌝ }
+    ensures { λ r. ⌜ DoesOut (events.poll slot time (length (now (out .entry)))) s (now (slots .entry)) (now (slots .exit)) (now (memory .entry))
+        (now (memory .exit)) (now (out .entry)) (now (out .exit)) r ⌝ }
 {
     poll::poll(s, slots, memory, slot, time, out)
 }
@@ -91,7 +93,8 @@ pub fn set(
     key: &[u8],
     payload: &[u8],
 ) -> Answer
-    ensures { λ r. ⌜ Does (events.set (now (key .entry)) (now (payload .entry))) s (now (slots .entry)) (now (slots .entry)) (now (memory .entry)) (now (memory .exit)) r ⌝ }
+    ensures { λ r. ⌜ Does (events.set (now (key .entry)) (now (payload .entry))) s (now (slots .entry)) (now (slots .entry)) (now (memory .entry))
+        (now (memory .exit)) r ⌝ }
 {
     octets::bounded(key);
     octets::bounded(payload);

@@ -9,7 +9,7 @@ ghost use Rattle.rules.specs.Refusals.{ownEntry};
 ghost use Rattle.rules.specs.Events.{liveIn};
 ghost use Rattle.memory.specs.Memory.{memoryOf};
 ghost use Rattle.memory.specs.Entries.{rowsAs};
-ghost use Rattle.memory.specs.Search.{FitsKey, FitsRow};
+ghost use Rattle.memory.specs.Search.{FitsKey, FitsRow, FoundBelow, firstFrom};
 ghost use Rattle.slots.specs.State.{settingsOf};
 ghost use Prim.Native.Nat.{ℕ, _<_};
 ghost use lib.ListN.{length};
@@ -18,10 +18,10 @@ ghost use Rattle.rules.specs.Refusals as rules;
 ghost use Rattle.memory.specs.Layout.{memorySize};
 ghost use Rattle.table.specs.Words.{tableSize};
 ghost use Rattle.memory.specs.Memory.{rowIn, rowsIn};
-ghost use Rattle.memory.specs.Search.{entry};
 ghost use Rattle.slots.specs.Codes.{codeNumber};
 ghost use Rattle.server.specs.State.{slotsOf, serverOf, Steps};
-ghost use Rattle.rules.specs.Server.{isUsed};
+ghost use Rattle.rules.specs.Server.{Entry, isUsed, holds};
+ghost use Rattle.slots.specs.declared.state.Server as declared;
 ghost use Rattle.server.specs.Events.{ownOf};
 use crate::answers;
 use crate::answers::Answer;
@@ -64,11 +64,11 @@ fn own_at(memory: &[u8], i: usize) -> Own
     }
 }
 
-fn own_of(memory: &[u8], key: &[u8], id: &[u8]) -> Own
-    requires { ⌜ (length (now memory) ≡ memorySize) × FitsKey (now key) (now id) ⌝ }
-    ensures { λ r. ⌜ r ≡ ownOf (entryRow (entry (now (key .entry)) (now (id .entry))) (rowsIn (now (memory .entry)))) ⌝ }
+fn own_of(memory: &[u8], found: Found) -> Own
+    requires { ⌜ (length (now memory) ≡ memorySize) × FoundBelow found ⌝ }
+    ensures { λ r. ⌜ ((e : Entry) → found ≡ firstFrom (holds e) 0 (rowsIn (now (memory .entry))) → r ≡ ownOf (entryRow e (rowsIn (now (memory .entry))))) ⌝ }
 {
-    match rows::find(memory, key, id) {
+    match found {
         Found::At(i) => own_at(memory, i),
         Found::Nothing => Own {
             held: false,
@@ -77,6 +77,16 @@ fn own_of(memory: &[u8], key: &[u8], id: &[u8]) -> Own
             empty: true,
         },
     }
+}
+
+// The row of our entry with this key.
+fn row_of(s: Server, memory: &[u8], key: &[u8]) -> Found
+    requires { ⌜ (length (now memory) ≡ memorySize) × FitsKey (now key) (s .settings .id) ⌝ }
+    ensures { λ r. ⌜ r ≡ firstFrom (holds (ownEntry (settingsOf (s .settings)) (now (key .entry)))) 0 (rowsIn (now (memory .entry))) ⌝ }
+{
+    let settings = s.settings;
+    let id = settings.id;
+    rows::find(memory, key, &id)
 }
 
 fn key_good(key: &[u8]) -> bool
@@ -98,19 +108,13 @@ fn payload_good(payload: &[u8]) -> bool
 }
 
 // ---- set
-fn set_code(s: Server, memory: &[u8], key: &[u8], payload: &[u8]) -> Outcome
-    requires { ⌜ length (now memory) ≡ memorySize ⌝ }
-    ensures { λ r. ⌜ ((slots : List ℕ) → codeNumber r ≡ rules.setCode (serverOf s slots (now (memory .entry))) (now (key .entry)) (now (payload .entry))) ⌝ }
+fn set_code(memory: &[u8], found: Found) -> Outcome
+    requires { ⌜ (length (now memory) ≡ memorySize) × FoundBelow found ⌝ }
+    ensures { λ r. ⌜ ((s : declared.Server) (slots key payload : List ℕ) → rules.ownKeyGood key ≡ true → rules.ownPayloadGood payload ≡ true → found
+        ≡ firstFrom (holds (ownEntry (settingsOf (s .settings)) key)) 0 (rowsIn (now (memory .entry))) → codeNumber r
+        ≡ rules.setCode (serverOf s slots (now (memory .entry))) key payload) ⌝ }
 {
-    if !key_good(key) {
-        return Outcome::Refused(Failure::Size);
-    }
-    if !payload_good(payload) {
-        return Outcome::Refused(Failure::Size);
-    }
-    let settings = s.settings;
-    let id = settings.id;
-    let o = own_of(memory, key, &id);
+    let o = own_of(memory, found);
     if o.spent {
         return Outcome::Refused(Failure::NumberSpent);
     }
@@ -123,40 +127,54 @@ fn set_code(s: Server, memory: &[u8], key: &[u8], payload: &[u8]) -> Outcome
     Outcome::Refused(Failure::NoFreeRow)
 }
 
-fn set_taken(s: Server, slots: &[usize], memory: &mut [u8], key: &[u8], payload: &[u8])
-    requires { ⌜ ((length (now slots) ≡ tableSize) × (length (now memory) ≡ memorySize)) × FitsRow (now key) (s .settings .id) (now payload) ⌝ }
-    ensures { λ _. ⌜ memoryOf (now (memory .exit)) ≡ rowsAs (λ rows. swept (setRows (liveIn (slotsOf (now (slots .entry)) (now (memory .entry)))) (ownEntry (settingsOf (s .settings)) (now (key .entry))) (now (payload .entry)) rows)) (now (memory .entry)) ⌝ }
+fn set_taken(
+    s: Server,
+    slots: &[usize],
+    memory: &mut [u8],
+    found: Found,
+    key: &[u8],
+    payload: &[u8],
+)
+    requires { ⌜ (((length (now slots) ≡ tableSize) × (length (now memory) ≡ memorySize)) × FitsRow (now key) (s .settings .id) (now payload))
+        × (found ≡ firstFrom (holds (ownEntry (settingsOf (s .settings)) (now key))) 0 (rowsIn (now memory))) ⌝ }
+    ensures { λ _. ⌜ memoryOf (now (memory .exit)) ≡ rowsAs (λ rows. swept (setRows (liveIn (slotsOf (now (slots .entry)) (now (memory .entry))))
+        (ownEntry (settingsOf (s .settings)) (now (key .entry))) (now (payload .entry)) rows)) (now (memory .entry)) ⌝ }
 {
     let settings = s.settings;
     let id = settings.id;
-    entries::set_entry(memory, ends::live_of(slots), key, &id, payload);
+    entries::set_entry(memory, found, ends::live_of(slots), key, &id, payload);
     store::sweep(memory);
 }
 
 pub fn set(s: Server, slots: &[usize], memory: &mut [u8], key: &[u8], payload: &[u8]) -> Answer
     requires { ⌜ (length (now slots) ≡ tableSize) × (length (now memory) ≡ memorySize) ⌝ }
-    ensures { λ r. ⌜ Steps (events.set (now (key .entry)) (now (payload .entry))) s (now (slots .entry)) (now (slots .entry)) (now (memory .entry)) (now (memory .exit)) r ⌝ }
+    ensures { λ r. ⌜ Steps (events.set (now (key .entry)) (now (payload .entry))) s (now (slots .entry)) (now (slots .entry)) (now (memory .entry))
+        (now (memory .exit)) r ⌝ }
 {
-    match set_code(s, memory, key, payload) {
+    if !key_good(key) {
+        return answers::refuse(s, Failure::Size);
+    }
+    if !payload_good(payload) {
+        return answers::refuse(s, Failure::Size);
+    }
+    let found = row_of(s, memory, key);
+    match set_code(memory, found) {
         Outcome::Refused(f) => answers::refuse(s, f),
         Outcome::Taken => {
-            set_taken(s, slots, memory, key, payload);
+            set_taken(s, slots, memory, found, key, payload);
             answers::take(s)
         }
     }
 }
 
 // ---- withdraw
-fn withdraw_code(s: Server, memory: &[u8], key: &[u8]) -> Outcome
-    requires { ⌜ length (now memory) ≡ memorySize ⌝ }
-    ensures { λ r. ⌜ ((slots : List ℕ) → codeNumber r ≡ rules.withdrawCode (serverOf s slots (now (memory .entry))) (now (key .entry))) ⌝ }
+fn withdraw_code(memory: &[u8], found: Found) -> Outcome
+    requires { ⌜ (length (now memory) ≡ memorySize) × FoundBelow found ⌝ }
+    ensures { λ r. ⌜ ((s : declared.Server) (slots key : List ℕ) → rules.ownKeyGood key ≡ true → found
+        ≡ firstFrom (holds (ownEntry (settingsOf (s .settings)) key)) 0 (rowsIn (now (memory .entry))) → codeNumber r
+        ≡ rules.withdrawCode (serverOf s slots (now (memory .entry))) key) ⌝ }
 {
-    if !key_good(key) {
-        return Outcome::Refused(Failure::Size);
-    }
-    let settings = s.settings;
-    let id = settings.id;
-    let o = own_of(memory, key, &id);
+    let o = own_of(memory, found);
     if o.empty {
         return Outcome::Refused(Failure::NoEntry);
     }
@@ -166,13 +184,12 @@ fn withdraw_code(s: Server, memory: &[u8], key: &[u8]) -> Outcome
     Outcome::Taken
 }
 
-fn withdraw_taken(s: Server, slots: &[usize], memory: &mut [u8], key: &[u8])
-    requires { ⌜ ((length (now slots) ≡ tableSize) × (length (now memory) ≡ memorySize)) × FitsKey (now key) (s .settings .id) ⌝ }
-    ensures { λ _. ⌜ memoryOf (now (memory .exit)) ≡ rowsAs (λ rows. swept (withdrawRows (liveIn (slotsOf (now (slots .entry)) (now (memory .entry)))) (ownEntry (settingsOf (s .settings)) (now (key .entry))) rows)) (now (memory .entry)) ⌝ }
+fn withdraw_taken(slots: &[usize], memory: &mut [u8], found: Found)
+    requires { ⌜ ((length (now slots) ≡ tableSize) × (length (now memory) ≡ memorySize)) × FoundBelow found ⌝ }
+    ensures { λ _. ⌜ ((e : Entry) → found ≡ firstFrom (holds e) 0 (rowsIn (now (memory .entry))) → memoryOf (now (memory .exit))
+        ≡ rowsAs (λ rows. swept (withdrawRows (liveIn (slotsOf (now (slots .entry)) (now (memory .entry)))) e rows)) (now (memory .entry))) ⌝ }
 {
-    let settings = s.settings;
-    let id = settings.id;
-    entries::withdraw_entry(memory, ends::live_of(slots), key, &id);
+    entries::withdraw_entry(memory, ends::live_of(slots), found);
     store::sweep(memory);
 }
 
@@ -180,26 +197,27 @@ pub fn withdraw(s: Server, slots: &[usize], memory: &mut [u8], key: &[u8]) -> An
     requires { ⌜ (length (now slots) ≡ tableSize) × (length (now memory) ≡ memorySize) ⌝ }
     ensures { λ r. ⌜ Steps (events.withdraw (now (key .entry))) s (now (slots .entry)) (now (slots .entry)) (now (memory .entry)) (now (memory .exit)) r ⌝ }
 {
-    match withdraw_code(s, memory, key) {
+    if !key_good(key) {
+        return answers::refuse(s, Failure::Size);
+    }
+    let found = row_of(s, memory, key);
+    match withdraw_code(memory, found) {
         Outcome::Refused(f) => answers::refuse(s, f),
         Outcome::Taken => {
-            withdraw_taken(s, slots, memory, key);
+            withdraw_taken(slots, memory, found);
             answers::take(s)
         }
     }
 }
 
 // ---- purge
-fn purge_code(s: Server, memory: &[u8], key: &[u8]) -> Outcome
-    requires { ⌜ length (now memory) ≡ memorySize ⌝ }
-    ensures { λ r. ⌜ ((slots : List ℕ) → codeNumber r ≡ rules.purgeCode (serverOf s slots (now (memory .entry))) (now (key .entry))) ⌝ }
+fn purge_code(memory: &[u8], found: Found) -> Outcome
+    requires { ⌜ (length (now memory) ≡ memorySize) × FoundBelow found ⌝ }
+    ensures { λ r. ⌜ ((s : declared.Server) (slots key : List ℕ) → rules.ownKeyGood key ≡ true → found
+        ≡ firstFrom (holds (ownEntry (settingsOf (s .settings)) key)) 0 (rowsIn (now (memory .entry))) → codeNumber r
+        ≡ rules.purgeCode (serverOf s slots (now (memory .entry))) key) ⌝ }
 {
-    if !key_good(key) {
-        return Outcome::Refused(Failure::Size);
-    }
-    let settings = s.settings;
-    let id = settings.id;
-    let o = own_of(memory, key, &id);
+    let o = own_of(memory, found);
     if !o.held {
         return Outcome::Refused(Failure::NoEntry);
     }
@@ -209,13 +227,12 @@ fn purge_code(s: Server, memory: &[u8], key: &[u8]) -> Outcome
     Outcome::Taken
 }
 
-fn purge_taken(s: Server, slots: &[usize], memory: &mut [u8], key: &[u8])
-    requires { ⌜ ((length (now slots) ≡ tableSize) × (length (now memory) ≡ memorySize)) × FitsKey (now key) (s .settings .id) ⌝ }
-    ensures { λ _. ⌜ memoryOf (now (memory .exit)) ≡ rowsAs (λ rows. swept (purgeRows (liveIn (slotsOf (now (slots .entry)) (now (memory .entry)))) (ownEntry (settingsOf (s .settings)) (now (key .entry))) rows)) (now (memory .entry)) ⌝ }
+fn purge_taken(slots: &[usize], memory: &mut [u8], found: Found)
+    requires { ⌜ ((length (now slots) ≡ tableSize) × (length (now memory) ≡ memorySize)) × FoundBelow found ⌝ }
+    ensures { λ _. ⌜ ((e : Entry) → found ≡ firstFrom (holds e) 0 (rowsIn (now (memory .entry))) → memoryOf (now (memory .exit))
+        ≡ rowsAs (λ rows. swept (purgeRows (liveIn (slotsOf (now (slots .entry)) (now (memory .entry)))) e rows)) (now (memory .entry))) ⌝ }
 {
-    let settings = s.settings;
-    let id = settings.id;
-    entries::purge_entry(memory, ends::live_of(slots), key, &id);
+    entries::purge_entry(memory, ends::live_of(slots), found);
     store::sweep(memory);
 }
 
@@ -223,10 +240,14 @@ pub fn purge(s: Server, slots: &[usize], memory: &mut [u8], key: &[u8]) -> Answe
     requires { ⌜ (length (now slots) ≡ tableSize) × (length (now memory) ≡ memorySize) ⌝ }
     ensures { λ r. ⌜ Steps (events.purge (now (key .entry))) s (now (slots .entry)) (now (slots .entry)) (now (memory .entry)) (now (memory .exit)) r ⌝ }
 {
-    match purge_code(s, memory, key) {
+    if !key_good(key) {
+        return answers::refuse(s, Failure::Size);
+    }
+    let found = row_of(s, memory, key);
+    match purge_code(memory, found) {
         Outcome::Refused(f) => answers::refuse(s, f),
         Outcome::Taken => {
-            purge_taken(s, slots, memory, key);
+            purge_taken(slots, memory, found);
             answers::take(s)
         }
     }

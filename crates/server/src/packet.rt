@@ -92,7 +92,8 @@ fn is_refuse(rule: CaRule) -> bool
 
 // Type not usable in this state. `rule`: the one that the packet takes, as a CA.
 fn unusable(h: Head, rule: CaRule, x: Slot) -> bool
-    ensures { λ r. ⌜ ((s : server.Settings) (p : List ℕ) (qs : List Request) (kept : List ℕ) → ruleOf rule ≡ ruleFor (s .id) (caPacketAt p h) (slotOf x qs kept) → r ≡ rules.unusable s (messageOf p h) (slotOf x qs kept) (messageOf p h .body)) ⌝ }
+    ensures { λ r. ⌜ ((s : server.Settings) (p : List ℕ) (qs : List Request) (kept : List ℕ) → ruleOf rule
+        ≡ ruleFor (s .id) (caPacketAt p h) (slotOf x qs kept) → r ≡ rules.unusable s (messageOf p h) (slotOf x qs kept) (messageOf p h .body)) ⌝ }
 {
     let k = h.kind;
     let l = x.link;
@@ -107,7 +108,8 @@ fn unusable(h: Head, rule: CaRule, x: Slot) -> bool
 }
 
 fn message_code(s: Settings, p: &[u8], h: Head, x: Slot, rule: CaRule) -> Outcome
-    ensures { λ r. ⌜ ((qs : List Request) (kept : List ℕ) → ruleOf rule ≡ ruleFor (s .id) (caPacketAt (now (p .entry)) h) (slotOf x qs kept) → codeNumber r ≡ rules.messageCode (settingsOf s) (slotOf x qs kept) (messageOf (now (p .entry)) h)) ⌝ }
+    ensures { λ r. ⌜ ((qs : List Request) (kept : List ℕ) → ruleOf rule ≡ ruleFor (s .id) (caPacketAt (now (p .entry)) h) (slotOf x qs kept) → codeNumber r
+        ≡ rules.messageCode (settingsOf s) (slotOf x qs kept) (messageOf (now (p .entry)) h)) ⌝ }
 {
     if !in_group(s, h) {
         return Outcome::Refused(Failure::Group);
@@ -130,7 +132,8 @@ fn message_code(s: Settings, p: &[u8], h: Head, x: Slot, rule: CaRule) -> Outcom
 // The slots that puts go to. Only a CSU Request asks for them.
 fn live_for(slots: &[usize], h: Head) -> u8
     requires { ⌜ length (now slots) ≡ tableSize ⌝ }
-    ensures { λ r. ⌜ ((memory p : List ℕ) (rs : List CsaRecord) → messageOf p h .body ≡ csuRequest rs → isMarked r ≡ liveIn (slotsOf (now (slots .entry)) memory)) ⌝ }
+    ensures { λ r. ⌜ ((memory p : List ℕ) (rs : List CsaRecord) → messageOf p h .body ≡ csuRequest rs → isMarked r
+        ≡ liveIn (slotsOf (now (slots .entry)) memory)) ⌝ }
 {
     let kind = h.kind;
     match kind {
@@ -168,8 +171,10 @@ fn act(
     rule: CaRule,
     out: &mut [u8],
 ) -> Acted
-    requires { ⌜ ((length (now memory) ≡ memorySize) × ((k < 8) × (284 ≤ length (now out)))) × (Reaches (now p) h × (ruleOf rule ≡ ruleFor (s .id) (caPacketAt (now p) h) (slotWith x k (now memory)))) ⌝ }
-    ensures { λ r. ⌜ ActsOn (messageOf (now (p .entry)) h) (isMarked live) k time (settingsOf s) x (now (memory .entry)) (now (memory .exit)) (now (out .entry)) (now (out .exit)) r ⌝ }
+    requires { ⌜ ((length (now memory) ≡ memorySize) × ((k < 8) × (284 ≤ length (now out))))
+        × (Reaches (now p) h × (ruleOf rule ≡ ruleFor (s .id) (caPacketAt (now p) h) (slotWith x k (now memory)))) ⌝ }
+    ensures { λ r. ⌜ ActsOn (messageOf (now (p .entry)) h) (isMarked live) k time (settingsOf s) x (now (memory .entry)) (now (memory .exit))
+        (now (out .entry)) (now (out .exit)) r ⌝ }
 {
     let id = s.id;
     let kind = h.kind;
@@ -194,7 +199,8 @@ fn message(
     out: &mut [u8],
 ) -> Answer
     requires { ⌜ ((length (now slots) ≡ tableSize) × (length (now memory) ≡ memorySize)) × (((k < 8) × (284 ≤ length (now out))) × Reaches (now p) h) ⌝ }
-    ensures { λ r. ⌜ DoesRead (reading.message (messageOf (now (p .entry)) h)) (now (p .entry)) k time s (now (slots .entry)) (now (slots .exit)) (now (memory .entry)) (now (memory .exit)) (now (out .entry)) (now (out .exit)) r ⌝ }
+    ensures { λ r. ⌜ DoesRead (reading.message (messageOf (now (p .entry)) h)) (now (p .entry)) k time s (now (slots .entry)) (now (slots .exit))
+        (now (memory .entry)) (now (memory .exit)) (now (out .entry)) (now (out .exit)) r ⌝ }
 {
     let x = table::slot_at(slots, k);
     let settings = s.settings;
@@ -220,7 +226,8 @@ fn malformed(
     time: u32,
 ) -> Answer
     requires { ⌜ ((length (now slots) ≡ tableSize) × (length (now memory) ≡ memorySize)) × (k < 8) ⌝ }
-    ensures { λ r. ⌜ ((at : ℕ) (out : List ℕ) → DoesRead (reading.malformed at) (now (p .entry)) k time s (now (slots .entry)) (now (slots .exit)) (now (memory .entry)) (now (memory .exit)) out out r) ⌝ }
+    ensures { λ r. ⌜ ((at : ℕ) (out : List ℕ) → DoesRead (reading.malformed at) (now (p .entry)) k time s (now (slots .entry)) (now (slots .exit))
+        (now (memory .entry)) (now (memory .exit)) out out r) ⌝ }
 {
     if octets::octet(p, 1) != 5 {
         return answers::refuse(s, Failure::Malformed);
@@ -255,7 +262,8 @@ fn reading(
     out: &mut [u8],
 ) -> Answer
     requires { ⌜ ((length (now slots) ≡ tableSize) × (length (now memory) ≡ memorySize)) × ((k < 8) × (284 ≤ length (now out))) ⌝ }
-    ensures { λ r. ⌜ DoesRead (reading.readPacket idLength (now (p .entry))) (now (p .entry)) k time s (now (slots .entry)) (now (slots .exit)) (now (memory .entry)) (now (memory .exit)) (now (out .entry)) (now (out .exit)) r ⌝ }
+    ensures { λ r. ⌜ DoesRead (reading.readPacket idLength (now (p .entry))) (now (p .entry)) k time s (now (slots .entry)) (now (slots .exit))
+        (now (memory .entry)) (now (memory .exit)) (now (out .entry)) (now (out .exit)) r ⌝ }
 {
     match read::read(p) {
         Reading::Refused(code) => answers::refuse(s, fixed_failure(code)),
@@ -274,7 +282,8 @@ pub fn packet(
     out: &mut [u8],
 ) -> Answer
     requires { ⌜ (length (now slots) ≡ tableSize) × (length (now memory) ≡ memorySize) ⌝ }
-    ensures { λ r. ⌜ StepsOut (events.packet k time (now (p .entry)) (length (now (out .entry)))) s (now (slots .entry)) (now (slots .exit)) (now (memory .entry)) (now (memory .exit)) (now (out .entry)) (now (out .exit)) r ⌝ }
+    ensures { λ r. ⌜ StepsOut (events.packet k time (now (p .entry)) (length (now (out .entry)))) s (now (slots .entry)) (now (slots .exit))
+        (now (memory .entry)) (now (memory .exit)) (now (out .entry)) (now (out .exit)) r ⌝ }
 {
     match answers::poll_code(s, slots, k, time, out.len()) {
         Outcome::Refused(f) => answers::refuse(s, f),

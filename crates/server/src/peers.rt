@@ -94,7 +94,8 @@ fn add_code(s: Server, slots: &[usize], k: usize, id: &[u8]) -> Outcome
 // It has no requests, no kept CA, and no row waits for a slot that had no peer.
 fn add_taken(s: Server, slots: &mut [usize], memory: &mut [u8], k: usize, id: &[u8]) -> Server
     requires { ⌜ ((length (now slots) ≡ tableSize) × (length (now memory) ≡ memorySize)) × ((k < 8) × (length (now id) ≡ 4)) ⌝ }
-    ensures { λ r. ⌜ serverOf r (now (slots .exit)) (now (memory .exit)) ≡ events.acted (serverOf s (now (slots .entry)) (now (memory .entry))) (events.addPeer k (now (id .entry))) ⌝ }
+    ensures { λ r. ⌜ serverOf r (now (slots .exit)) (now (memory .exit)) ≡ events.acted (serverOf s (now (slots .entry)) (now (memory .entry)))
+        (events.addPeer k (now (id .entry))) ⌝ }
 {
     parts::empty_lists(memory, k);
     let x = state::peer_slot(records::list::array4(id));

@@ -23,7 +23,8 @@ fn poll_taken(
     out: &mut [u8],
 ) -> Answer
     requires { ⌜ ((length (now slots) ≡ tableSize) × (length (now memory) ≡ memorySize)) × ((k < 8) × (284 ≤ length (now out))) ⌝ }
-    ensures { λ r. ⌜ PollsTaken k time s (now (slots .entry)) (now (slots .exit)) (now (memory .entry)) (now (memory .exit)) (now (out .entry)) (now (out .exit)) r ⌝ }
+    ensures { λ r. ⌜ PollsTaken k time s (now (slots .entry)) (now (slots .exit)) (now (memory .entry)) (now (memory .exit)) (now (out .entry))
+        (now (out .exit)) r ⌝ }
 {
     let x = table::slot_at(slots, k);
     let settings = s.settings;
@@ -40,7 +41,8 @@ pub fn poll(
     out: &mut [u8],
 ) -> Answer
     requires { ⌜ (length (now slots) ≡ tableSize) × (length (now memory) ≡ memorySize) ⌝ }
-    ensures { λ r. ⌜ StepsOut (events.poll k time (length (now (out .entry)))) s (now (slots .entry)) (now (slots .exit)) (now (memory .entry)) (now (memory .exit)) (now (out .entry)) (now (out .exit)) r ⌝ }
+    ensures { λ r. ⌜ StepsOut (events.poll k time (length (now (out .entry)))) s (now (slots .entry)) (now (slots .exit)) (now (memory .entry))
+        (now (memory .exit)) (now (out .entry)) (now (out .exit)) r ⌝ }
 {
     match answers::poll_code(s, slots, k, time, out.len()) {
         Outcome::Refused(f) => answers::refuse(s, f),

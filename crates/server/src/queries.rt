@@ -24,7 +24,8 @@ use slots::state::Slot;
 // ---- a slot
 fn slot_of(slots: &[usize], slot: usize) -> Slot
     requires { ⌜ length (now slots) ≡ tableSize ⌝ }
-    ensures { λ r. ⌜ ((s : declared.Server) (memory : List ℕ) → slotOf r (rules.slotAt (serverOf s (now (slots .entry)) memory) slot .requests) (rules.slotAt (serverOf s (now (slots .entry)) memory) slot .kept) ≡ rules.slotAt (serverOf s (now (slots .entry)) memory) slot) ⌝ }
+    ensures { λ r. ⌜ ((s : declared.Server) (memory : List ℕ) → slotOf r (rules.slotAt (serverOf s (now (slots .entry)) memory) slot .requests)
+        (rules.slotAt (serverOf s (now (slots .entry)) memory) slot .kept) ≡ rules.slotAt (serverOf s (now (slots .entry)) memory) slot) ⌝ }
 {
     if slot < 8 {
         return table::slot_at(slots, slot);

@@ -245,7 +245,8 @@ fn emptied(x: Slot) -> Slot
 
 // The slot with its link moved. Where it enters Down or Negotiate, its list and its kept CA are to be emptied.
 pub fn moved(x: Slot, l: Link) -> Slot
-    ensures { λ r. ⌜ ((qs : List Request) (kept : List ℕ) → slotOf r (emptyIf (links.enters (x .link .alignment) (l .alignment)) qs) (emptyIf (links.enters (x .link .alignment) (l .alignment)) kept) ≡ rules.moved l (slotOf x qs kept)) ⌝ }
+    ensures { λ r. ⌜ ((qs : List Request) (kept : List ℕ) → slotOf r (emptyIf (links.enters (x .link .alignment) (l .alignment)) qs)
+        (emptyIf (links.enters (x .link .alignment) (l .alignment)) kept) ≡ rules.moved l (slotOf x qs kept)) ⌝ }
 {
     let old = x.link;
     let a = old.alignment;

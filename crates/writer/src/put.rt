@@ -171,7 +171,8 @@ fn head_of(v: CsaValue) -> [u8; 12]
 // A record of at most 64 octets.
 fn put_record(out: &mut [u8], at: usize, v: CsaValue) -> usize
     requires { ⌜ at + 64 ≤ length (now out) ⌝ }
-    ensures { λ n. ⌜ Put (layouts.recordOctets 0 (recordOf v)) at (now (out .entry)) (now (out .exit)) n × ((n ≤ at + 64) × (n ≤ at + 32 + v .«payload_len»)) ⌝ }
+    ensures { λ n. ⌜ Put (layouts.recordOctets 0 (recordOf v)) at (now (out .entry)) (now (out .exit)) n
+        × ((n ≤ at + 64) × (n ≤ at + 32 + v .«payload_len»)) ⌝ }
 {
     let h = head_of(v);
     let key = v.key;
@@ -222,7 +223,8 @@ pub fn count_of(r: Records) -> usize
 // Records, whole or as summaries.
 pub fn put_records(out: &mut [u8], at: usize, r: Records, whole: bool) -> usize
     requires { ⌜ at + (3 * recordMost whole + 64) ≤ length (now out) ⌝ }
-    ensures { λ n. ⌜ Put (layouts.recordsOctets [] (carriedOf whole (take (r .count) (r .list)))) at (now (out .entry)) (now (out .exit)) n × (n ≤ at + 4 * recordMost whole) ⌝ }
+    ensures { λ n. ⌜ Put (layouts.recordsOctets [] (carriedOf whole (take (r .count) (r .list)))) at (now (out .entry)) (now (out .exit)) n
+        × (n ≤ at + 4 * recordMost whole) ⌝ }
 {
     let list = r.list;
     let count = count_of(r);

@@ -1,5 +1,5 @@
-use Rattle.memory.proofs.EntryLaws.{entry-held, entry-new}
 use Rattle.memory.proofs.RowInsert.{found-below}
+use Rattle.memory.proofs.EntryLaws.{entry-held, entry-new}
 use Rattle.memory.specs.Search.{entry}
 use Rattle.memory.specs.Memory.{isMarked}
 use Rattle.rules.specs.Updates.{changedRow, newRow}
@@ -9,24 +9,28 @@ use borrow.Author.Needs.{needs}
 use Rattle.memory.proofs.entries.set_entry.Statement.{statement}
 use Rattle.memory.proofs.entries.set_entry.Tie as tie
 
-find-requires : tie.Need-find-requires
-find-requires c κs =
-    let p = c .before .before .before .before .before .pre in
-    (p .0, ((p .1 .some-key, p .1 .key-fits), p .1 .originator-fits))
-
 change-row-requires : tie.Need-change-row-requires
-change-row-requires c κs = let a = c .before .before .before .before .before .before .before .before .before .before .args in let i = c .before .before .i .given in (c .before .before .before .before .before .before .before .before .before .before .pre .0, (found-below (holds (entry (a .key .now) (a .originator .now))) (a .memory .now) (i .0 .0) (sym (c .before .before .before .before .find .ensures) ∙ i .1), c .before .before .before .before .before .before .before .before .before .before .pre .1 .payload-fits))
+change-row-requires c κs =
+    let a = c .before .before .before .before .before .before .before .before .args in
+    let p = c .before .before .before .before .before .before .before .before .pre in
+    let i = c .before .before .found .given in
+    (p .0 .0, (found-below (holds (entry (a .key .now) (a .originator .now))) (a .memory .now) (i .0 .0) (sym (p .1) ∙ i .1), p .0 .1 .payload-fits))
 
 returns : tie.Need-returns
-returns c = let a = c .before .before .before .before .before .before .before .before .before .before .before .before .before .args in let i = c .before .before .before .before .before .i .given in entry-held (entry (a .key .now) (a .originator .now)) (a .memory .now) (i .0 .0) (sym (c .before .before .before .before .before .before .before .find .ensures) ∙ i .1) (changedRow (isMarked (a .live)) (a .payload .now)) (c .before .before .change-row .last .0) (newRow (isMarked (a .live)) (entry (a .key .now) (a .originator .now)) (a .payload .now)) (c .before .before .change-row .ensures)
+returns c =
+    let a = c .before .before .before .before .before .before .before .before .before .before .before .args in
+    let i = c .before .before .before .before .before .found .given in
+    entry-held (entry (a .key .now) (a .originator .now)) (a .memory .now) (i .0 .0) (sym (c .before .before .before .before .before .before .before .before .before .before .before .pre .1) ∙ i .1) (changedRow (isMarked (a .live)) (a .payload .now)) (c .before .before .change-row .last .0) (newRow (isMarked (a .live)) (entry (a .key .now) (a .originator .now)) (a .payload .now)) (c .before .before .change-row .ensures)
 
 returns-2 : tie.Need-returns-2
-returns-2 c = let a = c .before .before .before .before .before .before .before .before .before .before .before .before .args in entry-new (entry (a .key .now) (a .originator .now)) (a .memory .now) (sym (c .before .before .before .before .before .before .find .ensures) ∙ c .before .before .before .before .enum-told .given .1) (changedRow (isMarked (a .live)) (a .payload .now)) (c .before .before .insert .last .0) (newRow (isMarked (a .live)) (entry (a .key .now) (a .originator .now)) (a .payload .now)) (c .before .before .insert .ensures .rows)
+returns-2 c =
+    let a = c .before .before .before .before .before .before .before .before .before .before .args in
+    entry-new (entry (a .key .now) (a .originator .now)) (a .memory .now) (sym (c .before .before .before .before .before .before .before .before .before .before .pre .1) ∙ c .before .before .before .before .enum-told .given .1) (changedRow (isMarked (a .live)) (a .payload .now)) (c .before .before .insert .last .0) (newRow (isMarked (a .live)) (entry (a .key .now) (a .originator .now)) (a .payload .now)) (c .before .before .insert .ensures .rows)
 
 pub set-entry-spec : {M : Type 1} → statement M
 set-entry-spec =
     tie.close
-    (tie.spec find-requires
+    (tie.spec
     (λ c. search needs)
     change-row-requires
     (λ c. search needs)

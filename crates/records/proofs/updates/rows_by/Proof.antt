@@ -1,5 +1,7 @@
 use Rattle.records.proofs.UpdateLaws.{parts-fit, rows-null, rows-absent, rows-full, rows-stored, rows-equal, rows-older}
-use Rattle.records.proofs.StandingLaws.{for-key, below-rows}
+use Rattle.records.proofs.StandingLaws.{for-key}
+use Rattle.memory.proofs.EntryLaws.{found-some}
+use Rattle.rules.specs.Server.{holds}
 use Rattle.rules.specs.Requests.{entryOf}
 use Rattle.wire.specs.Views.{csaRecordOf}
 use Rattle.memory.specs.Memory.{isMarked}
@@ -19,13 +21,13 @@ equal-record-requires : tie.Need-equal-record-requires
 equal-record-requires c κs =
     let a = c .before .before .before .before .before .args in
     let p = c .before .before .before .before .before .pre in
-    ((p .0 .0, p .0 .1 .0), below-rows (a .memory .now) (csaRecordOf (a .p .now) (a .v)) (a .found) (p .1))
+    ((p .0 .0, p .0 .1 .0), found-some (holds (entryOf (csaRecordOf (a .p .now) (a .v)))) (a .memory .now) (a .found) (p .1))
 
 older-record-requires : tie.Need-older-record-requires
 older-record-requires c κs =
     let a = c .before .before .before .before .before .args in
     let p = c .before .before .before .before .before .pre in
-    ((p .0 .0, p .0 .1 .0), below-rows (a .memory .now) (csaRecordOf (a .p .now) (a .v)) (a .found) (p .1))
+    ((p .0 .0, p .0 .1 .0), found-some (holds (entryOf (csaRecordOf (a .p .now) (a .v)))) (a .memory .now) (a .found) (p .1))
 
 returns : tie.Need-returns
 returns c = let a = c .before .before .before .before .args in rows-null (a .rule) (isMarked (a .live)) (a .k) (csaRecordOf (a .p .now) (a .v)) (a .memory .now) (c .enum-told .given .1)

@@ -1,47 +1,19 @@
-use mathlib.Core.Path.{_≡_, sym, _∙_}
-use mathlib.Core.Bool.{true}
-use borrow.Author.Tests.{not-true, not-false}
-use borrow.Author.Needs.{needs}
-use Rattle.rules.specs.Refusals.{ownKeyGood}
+use Rattle.rules.specs.Refusals.{ownEntry}
+use Rattle.slots.specs.State.{settingsOf}
 use Rattle.server.specs.State.{serverOf}
-use Rattle.server.proofs.OwnLaws.{key-room, withdraw-key, withdraw-empty, withdraw-spent, withdraw-taken}
+use Rattle.server.proofs.OwnLaws.{withdraw-empty, withdraw-spent, withdraw-taken}
+use borrow.Author.Needs.{needs}
 use Rattle.server.proofs.own.withdraw_code.Statement.{statement}
 use Rattle.server.proofs.own.withdraw_code.Tie as tie
 
-key-ok : (c : tie.Else1) → ownKeyGood (c .before .before .before .before .args .key .now) ≡ true
-key-ok c = sym (c .before .key-good .ensures) ∙ not-false (c .before .key-good .result) (c .if1 .left)
-
-own-of-requires : tie.Need-own-of-requires
-own-of-requires c κs = (c .before .before .before .before .before .before .before .pre, key-room (c .before .before .before .before .before .before .before .args .key .now) (c .before .before .before .before .before .before .before .args .s .settings .id) (key-ok (c .before .before .before)) (search needs))
-
 returns : tie.Need-returns
-returns c = λ slots.
-    let a = c .before .before .before .before .args in
-    withdraw-key (serverOf (a .s) slots (a .memory .now)) (a .key .now) (sym (c .before .key-good .ensures) ∙ not-true (c .before .key-good .result) (c .if1 .taken))
+returns c = λ s slots key good g. withdraw-empty (serverOf s slots (c .before .before .before .args .memory .now)) key good (c .before .own-of .result) (c .before .own-of .ensures (ownEntry (settingsOf (s .settings)) key) g) (c .if1 .taken)
 
 returns-2 : tie.Need-returns-2
-returns-2 c = λ slots.
-    let a = c .before .before .before .before .before .before .before .before .before .args in
-    withdraw-empty (serverOf (a .s) slots (a .memory .now)) (a .key .now) (key-ok (c .before .before .before .before .before)) (c .before .own-of .result) (c .before .own-of .ensures) (c .if2 .taken)
+returns-2 c = λ s slots key good g. withdraw-spent (serverOf s slots (c .before .before .before .before .args .memory .now)) key good (c .before .before .own-of .result) (c .before .before .own-of .ensures (ownEntry (settingsOf (s .settings)) key) g) (c .before .if1 .left) (c .if2 .taken)
 
 returns-3 : tie.Need-returns-3
-returns-3 c = λ slots.
-    let a = c .before .before .before .before .before .before .before .before .before .before .args in
-    withdraw-spent (serverOf (a .s) slots (a .memory .now)) (a .key .now) (key-ok (c .before .before .before .before .before .before)) (c .before .before .own-of .result) (c .before .before .own-of .ensures) (c .before .if2 .left) (c .if3 .taken)
-
-returns-4 : tie.Need-returns-4
-returns-4 c = λ slots.
-    let a = c .before .before .before .before .before .before .before .before .before .before .args in
-    withdraw-taken (serverOf (a .s) slots (a .memory .now)) (a .key .now) (key-ok (c .before .before .before .before .before .before)) (c .before .before .own-of .result) (c .before .before .own-of .ensures) (c .before .if2 .left) (c .if3 .left)
+returns-3 c = λ s slots key good g. withdraw-taken (serverOf s slots (c .before .before .before .before .args .memory .now)) key good (c .before .before .own-of .result) (c .before .before .own-of .ensures (ownEntry (settingsOf (s .settings)) key) g) (c .before .if1 .left) (c .if2 .left)
 
 pub withdraw-code-spec : {M : Type 1} → statement M
-withdraw-code-spec =
-    tie.close
-    (tie.spec
-    (λ c κs. search needs)
-    returns
-    (λ c. search needs)
-    own-of-requires
-    returns-2
-    returns-3
-    returns-4)
+withdraw-code-spec = tie.close (tie.spec (λ c κs. search needs) returns returns-2 returns-3)
