@@ -62,7 +62,7 @@ messageBy s x rows l =
 abbrev sentSlot : rules.Settings → ℕ → rules.Slot → List Row → List ℕ → ℕ → rules.Slot
 sentSlot s now x rows l to = completed (keeping (newPacket (messageBy s x rows l)) now to x)
 
-module _ (k : ℕ) (q : List ℕ) (before after : List ℕ) (h : k < 8) (m : memoryOf after ≡ memories.withKept k q (memoryOf before)) where
+module _ (k : ℕ) (q : List ℕ) (before after : List ℕ) (h : k < 8) (m : memoryOf after ≡ memories.keptPut k q (memoryOf before)) where
   kept-requests : requestsOf (memoryOf after) k ≡ requestsOf (memoryOf before) k
   kept-requests = ap (λ (x : Memory). requestsOf x k) m
 
@@ -243,7 +243,7 @@ module _ (u : CaRule) (h : answers u ≡ true) (k time : ℕ) (s : rules.Setting
 pub done-leaves : (k : ℕ) (p : List ℕ) (head : Head) (x y r : Slot) (l : Link) (seen : CaHead) (before mid after : List ℕ) → k < 8 → seen ≡ headAt p
     → ((sender : List ℕ) (empty : Bool) → l ≡ caMove masterDone (caIn seen sender empty) (x .link .more) (x .link))
     → Leaves k (takingIn l (rowsIn before) (recordsOf p (head .records)) (slotWith x k before)) (rowsIn before) before mid y
-    → memoryOf after ≡ memories.withKept k [] (memoryOf mid) → slotWith r k after ≡ completed (slotWith y k after)
+    → memoryOf after ≡ memories.keptPut k [] (memoryOf mid) → slotWith r k after ≡ completed (slotWith y k after)
     → Leaves k (completed (withKept [] (taking masterDone (rowsIn before) (caPacketAt p head) (slotWith x k before)))) (rowsIn before) before after r
 done-leaves k p head x y r l seen before mid after lt eh el left m er =
     let X : rules.Slot = slotWith x k before in

@@ -21,6 +21,8 @@ use Rattle.protocol.specs.declared.Alignment.the-variants.{Summarize}
 use Rattle.rules.specs.Server as rules
 use Rattle.rules.specs.Server.{rowsMost, Row, free, waitsFor, rowAt, Request}
 use Rattle.rules.specs.Rows.{behind, nextWaiting}
+use Rattle.protocol.specs.declared.Last.{Last}
+use Rattle.rules.specs.Slots.{passed}
 use Rattle.rules.specs.Poll as poll
 use Rattle.rules.specs.Poll.{dueIn}
 use Rattle.rules.proofs.NextLaws.{far, reached-or-nearer, next-passes}
@@ -29,10 +31,10 @@ use Rattle.memory.specs.Memory.{rowIn, rowsIn, memoryOf, requestsIn, requestsOf
 use Rattle.memory.specs.Marks.{picksOf, Picked}
 use Rattle.memory.proofs.Rooms.{requests-of}
 use Rattle.slots.specs.declared.state.Slot.{Slot}
-use Rattle.actions.specs.declared.poll.Due.{Due}
-use Rattle.actions.specs.declared.poll.Due.the-variants.{Nothing, Update}
-use Rattle.actions.specs.declared.poll.Plan.{Plan}
-use Rattle.actions.specs.Steps.{dueOf, noPicks, GoodPicks, Plans}
+use Rattle.actions.specs.declared.due.Due.{Due}
+use Rattle.actions.specs.declared.due.Due.the-variants.{Nothing, Update}
+use Rattle.actions.specs.declared.due.Plan.{Plan}
+use Rattle.actions.specs.Steps.{dueKind, noPicks, GoodPicks, Plans}
 
 -- ---- plans with no rows
 pub plan-is : (due : Due) (p : Picks) → p ≡ noPicks → _≡_ {A = Plan} (record { due = due; picks = p }) (record { due = due; picks = noPicks })
@@ -43,11 +45,11 @@ pub plan-if : (b c : Bool) (due other : Due) (r : Plan) → pick c due Nothing �
 plan-if b c due other r f e h = h ∙ (λ i. record { due = (sym f ∙ ap (λ (z : Bool). pick z due Nothing) (sym e)) i; picks = noPicks })
 
 module _ (k : ℕ) (x : Slot) (memory : List ℕ) (r : Plan) where
-  pub planned : (due : Due) (d : poll.Due) → GoodPicks due k x memory noPicks → dueOf due ≡ d → r ≡ record { due = due; picks = noPicks } → Plans d k x memory r
+  pub planned : (due : Due) (d : poll.Due) → GoodPicks due k x memory noPicks → dueKind due ≡ d → r ≡ record { due = due; picks = noPicks } → Plans d k x memory r
   planned due d g e h = subst (λ (p : Plan). Plans d k x memory p) (sym h) (record { which = e; rows = g })
 
-  pub planned-if : (due : Due) → GoodPicks due k x memory noPicks → (b : Bool) → r ≡ record { due = pick b due Nothing; picks = noPicks } → Plans (pick b (dueOf due) poll.nothingDue) k x memory r
-  planned-if due g true h = planned due (dueOf due) g refl h
+  pub planned-if : (due : Due) → GoodPicks due k x memory noPicks → (b : Bool) → r ≡ record { due = pick b due Nothing; picks = noPicks } → Plans (pick b (dueKind due) poll.nothingDue) k x memory r
+  planned-if due g true h = planned due (dueKind due) g refl h
   planned-if due g false h = planned Nothing poll.nothingDue tt refl h
 
 -- ---- 'CSU Request .. while a row waits'
@@ -140,8 +142,15 @@ module _ (time k : ℕ) (x : Slot) (memory : List ℕ) (y : rules.Slot) (r : Pla
 -- ---- the first that is due
 module _ (k : ℕ) (x : Slot) (memory : List ℕ) (r : Plan) (b : Bool) (d : poll.Due) where
   -- `first` where b holds, else the other
-  pub due-first : (due : Due) → GoodPicks due k x memory noPicks → b ≡ true → r ≡ record { due = due; picks = noPicks } → Plans (pick b (dueOf due) d) k x memory r
+  pub due-first : (due : Due) → GoodPicks due k x memory noPicks → b ≡ true → r ≡ record { due = due; picks = noPicks } → Plans (pick b (dueKind due) d) k x memory r
   due-first due g e h = planned k x memory r due _ g (rw e) h
 
   pub due-other : (first : poll.Due) → b ≡ false → Plans d k x memory r → Plans (pick b first d) k x memory r
   due-other first e h = rw e h
+
+-- ---- times that are read from the table
+pub passed-at : (n time : ℕ) (l m : Last) (r : Bool) → r ≡ passed n l time → l ≡ m → r ≡ passed n m time
+passed-at n time l m r h e = h ∙ ap (λ (z : Last). passed n z time) e
+
+pub picked-at : (c d : ℕ) (rows : List Row) (k : ℕ) (p : Picks) → Picked c (nextWaiting rows k c) p → c ≡ d → Picked d (nextWaiting rows k d) p
+picked-at c d rows k p h e = subst (λ (z : ℕ). Picked z (nextWaiting rows k z) p) e h

@@ -3,6 +3,7 @@ pub mod MoveLaws
 pub mod ReceiverLaws
 pub mod AlignmentLaws
 pub mod CaLaws
+pub mod FinishLaws
 pub mod UpdateLaws
 pub mod DueLaws
 pub mod SendLaws

@@ -11,7 +11,7 @@ use Rattle.laws.specs.Puts.{written}
 use Rattle.laws.proofs.TableLaws.{table-length}
 use Rattle.rules.specs.Server as rules
 use Rattle.rules.specs.Server.{Row, Request}
-use Rattle.memory.specs.Memory.{rowsIn, keptIn, Memory, memoryOf, withRows, withRequests, withKept, requestsOf, keptOf}
+use Rattle.memory.specs.Memory.{rowsIn, keptIn, Memory, memoryOf, withRows, requestsPut, keptPut, requestsOf, keptOf}
 use Rattle.records.proofs.MemoryLaws.{lists-eight, memory-rows}
 use Rattle.slots.specs.declared.state.Slot.{Slot}
 use Rattle.slots.specs.State.{slotOf}
@@ -28,18 +28,18 @@ abbrev pub partsPut : ℕ → List Row → List Request → List ℕ → Memory 
 partsPut k rows qs p m = record { rows = rows; requests = lists.set (m .requests) k qs; kept = lists.set (m .kept) k p }
 
 module _ (m : Memory) (k : ℕ) where
-  pub kept-put : (p : List ℕ) → length (m .kept) ≡ 8 → k < 8 → keptOf (withKept k p m) k ≡ p
+  pub kept-put : (p : List ℕ) → length (m .kept) ≡ 8 → k < 8 → keptOf (keptPut k p m) k ≡ p
   kept-put p n h = getD-set-same (m .kept) k p [] (omega arith)
 
-  pub kept-same : withKept k (keptOf m k) m ≡ m
+  pub kept-same : keptPut k (keptOf m k) m ≡ m
   kept-same = ap (λ (l : List (List ℕ)). record { rows = m .rows; requests = m .requests; kept = l }) (set-getD (m .kept) k [])
 
-  pub kept-twice : (a b : List ℕ) → withKept k a (withKept k b m) ≡ withKept k a m
+  pub kept-twice : (a b : List ℕ) → keptPut k a (keptPut k b m) ≡ keptPut k a m
   kept-twice a b =
       ap (λ (l : List (List ℕ)). record { rows = m .rows; requests = m .requests; kept = l }) (set-set (m .kept) k b a)
 
   -- slot k's part as it was
-  pub both-same : withKept k (keptOf m k) (withRequests k (requestsOf m k) m) ≡ m
+  pub both-same : keptPut k (keptOf m k) (requestsPut k (requestsOf m k) m) ≡ m
   both-same = λ z. record {
     rows = m .rows;
     requests = set-getD (m .requests) k [] z;
@@ -103,7 +103,7 @@ leaves-then {k} {s₁} {s₂} {r₁} {r₂} {a} {b} {c} {x} {y} l n = record {
 module _ (k : ℕ) (slot : rules.Slot) (before after : List ℕ) (x : Slot) where
   -- all of them put
   pub leaves-parts : (rows : List Row) (qs : List Request) (p : List ℕ)
-      → memoryOf after ≡ withRows rows (withKept k p (withRequests k qs (memoryOf before))) → slotOf x qs p ≡ slot → Leaves k slot rows before after x
+      → memoryOf after ≡ withRows rows (keptPut k p (requestsPut k qs (memoryOf before))) → slotOf x qs p ≡ slot → Leaves k slot rows before after x
   leaves-parts rows qs p e f = record {
     struct = (λ z. slotOf x (sym f z .requests) (sym f z .kept)) ∙ f;
     memory = e ∙ (λ z. partsPut k rows (f z .requests) (f z .kept) (memoryOf before));
@@ -111,28 +111,28 @@ module _ (k : ℕ) (slot : rules.Slot) (before after : List ℕ) (x : Slot) wher
 
   -- the rows as they were
   pub leaves-lists : (qs : List Request) (p : List ℕ)
-      → memoryOf after ≡ withKept k p (withRequests k qs (memoryOf before)) → slotOf x qs p ≡ slot → Leaves k slot (rowsIn before) before after x
+      → memoryOf after ≡ keptPut k p (requestsPut k qs (memoryOf before)) → slotOf x qs p ≡ slot → Leaves k slot (rowsIn before) before after x
   leaves-lists qs p e f =
       leaves-parts (rowsIn before) qs p
-      (e ∙ ap (λ (rows : List Row). withRows rows (withKept k p (withRequests k qs (memoryOf before)))) (memory-rows before)) f
+      (e ∙ ap (λ (rows : List Row). withRows rows (keptPut k p (requestsPut k qs (memoryOf before)))) (memory-rows before)) f
 
   -- the kept CA as it was
-  pub leaves-both : (rows : List Row) (qs : List Request) → memoryOf after ≡ withRows rows (withRequests k qs (memoryOf before))
+  pub leaves-both : (rows : List Row) (qs : List Request) → memoryOf after ≡ withRows rows (requestsPut k qs (memoryOf before))
       → slotOf x qs (keptOf (memoryOf before) k) ≡ slot → Leaves k slot rows before after x
   leaves-both rows qs e f =
       leaves-parts rows qs (keptOf (memoryOf before) k)
-      (e ∙ ap (λ (m : Memory). withRows rows (withRequests k qs m)) (sym (kept-same (memoryOf before) k))) f
+      (e ∙ ap (λ (m : Memory). withRows rows (requestsPut k qs m)) (sym (kept-same (memoryOf before) k))) f
 
-  pub leaves-requests : (qs : List Request) → memoryOf after ≡ withRequests k qs (memoryOf before)
+  pub leaves-requests : (qs : List Request) → memoryOf after ≡ requestsPut k qs (memoryOf before)
       → slotOf x qs (keptOf (memoryOf before) k) ≡ slot → Leaves k slot (rowsIn before) before after x
   leaves-requests qs e f =
-      leaves-lists qs (keptOf (memoryOf before) k) (e ∙ ap (withRequests k qs) (sym (kept-same (memoryOf before) k))) f
+      leaves-lists qs (keptOf (memoryOf before) k) (e ∙ ap (requestsPut k qs) (sym (kept-same (memoryOf before) k))) f
 
-  pub leaves-kept : (p : List ℕ) → memoryOf after ≡ withKept k p (memoryOf before)
+  pub leaves-kept : (p : List ℕ) → memoryOf after ≡ keptPut k p (memoryOf before)
       → slotOf x (requestsOf (memoryOf before) k) p ≡ slot → Leaves k slot (rowsIn before) before after x
   leaves-kept p e f =
       leaves-lists (requestsOf (memoryOf before) k) p
-      (e ∙ ap (λ (l : List (List Request)). withKept k p (record { rows = memoryOf before .rows; requests = l; kept = memoryOf before .kept }))
+      (e ∙ ap (λ (l : List (List Request)). keptPut k p (record { rows = memoryOf before .rows; requests = l; kept = memoryOf before .kept }))
       (sym (set-getD (memoryOf before .requests) k []))) f
 
   pub leaves-rows : (rows : List Row) → memoryOf after ≡ withRows rows (memoryOf before) → slotWith x k before ≡ slot → Leaves k slot rows before after x

@@ -6,6 +6,7 @@ use mathlib.Core.Bool.{Bool, true, false, _&&_}
 use mathlib.Core.Logic.{_⊎_, inl, inr}
 use mathlib.Core.List.{List, []}
 use Rattle.laws.specs.Choice.{pick}
+use Rattle.protocol.specs.declared.HelloState.{HelloState}
 use Rattle.protocol.specs.declared.HelloState.the-variants.{Waiting}
 use Rattle.protocol.specs.declared.Alignment.{Alignment}
 use Rattle.protocol.specs.declared.Alignment.the-variants.{Down}
@@ -23,11 +24,31 @@ use Rattle.rules.proofs.PastLaws.{enters-same, moved-link}
 use Rattle.memory.specs.Memory.{rowsIn, memoryOf}
 use Rattle.memory.specs.Memory as memories
 use Rattle.slots.specs.declared.state.Slot.{Slot}
-use Rattle.actions.specs.declared.parts.Acted.{Acted}
-use Rattle.actions.specs.declared.poll.Plan.{Plan}
-use Rattle.actions.specs.Parts.{slotWith, Leaves, Moves, Wrote, Acts}
-use Rattle.actions.specs.Steps.{dueOf, Plans, Polls}
+use Rattle.actions.specs.declared.due.Plan.{Plan}
+use Rattle.table.specs.Words.{slotIn}
+use Rattle.actions.specs.Parts.{slotWith, slotNow, Leaves, MovesAt, Wrote, ActsAt}
+use Rattle.actions.specs.Steps.{dueKind, Plans, PollsAt}
 use Rattle.actions.proofs.PartLaws.{left-rows, left-slot, leaves-as, leaves-then, leaves-same, leaves-kept}
+
+-- ---- the Hello check, by what is read of the link
+module _ (l : Link) (time : ℕ) (h : HelloState) (heard : Bool) (e : heard ≡ hearsPeer h) (f : h ≡ l .hello) where
+  told : (b : Bool) → heard ≡ b → hearsPeer (l .hello) ≡ b
+  told b t = ap hearsPeer (sym f) ∙ sym e ∙ t
+
+  pub stale-heard : (i n t : ℕ) (r : Bool) → heard ≡ true → i ≡ l .interval → n ≡ l .factor → t ≡ l .heard → r ≡ stale i n t time
+      → r ≡ (hearsPeer (l .hello) && stale (l .interval) (l .factor) (l .heard) time)
+  stale-heard i n t r b p q u v = rw (told true b, sym p, sym q, sym u) v
+
+  pub stale-not : heard ≡ false → false ≡ (hearsPeer (l .hello) && stale (l .interval) (l .factor) (l .heard) time)
+  stale-not b = rw (told false b)
+
+-- the link then
+pub check-still : (time : ℕ) (l : Link) (b : Bool) → b ≡ (hearsPeer (l .hello) && stale (l .interval) (l .factor) (l .heard) time) → b ≡ false → l ≡ checkMove time l
+check-still time l b e f = rw (sym e ∙ f)
+
+pub check-stale : (time : ℕ) (l : Link) (b : Bool) → b ≡ (hearsPeer (l .hello) && stale (l .interval) (l .factor) (l .heard) time) → b ≡ true
+    → toOther Waiting l ≡ checkMove time l
+check-stale time l b e f = rw (sym e ∙ f)
 
 -- ---- the kept CA
 module _ (k : ℕ) (x : Slot) (m : List ℕ) (past old : Bool) where
@@ -40,7 +61,7 @@ module _ (k : ℕ) (x : Slot) (m : List ℕ) (past old : Bool) where
   pub drop-young : past ≡ true → old ≡ false → Leaves k dropped (rowsIn m) m m x
   drop-young e f = leaves-same k dropped m x (rw (e, f))
 
-  pub drop-done : (m′ : List ℕ) → past ≡ true → old ≡ true → memoryOf m′ ≡ memories.withKept k [] (memoryOf m) → Leaves k dropped (rowsIn m) m m′ x
+  pub drop-done : (m′ : List ℕ) → past ≡ true → old ≡ true → memoryOf m′ ≡ memories.keptPut k [] (memoryOf m) → Leaves k dropped (rowsIn m) m m′ x
   drop-done m′ e f h = leaves-kept k dropped m m′ x [] h (rw (e, f))
 
 -- ---- the link of the slot after each part
@@ -106,27 +127,31 @@ module _ (s : rules.Settings) (now k : ℕ) (rows : List Row) (x : rules.Slot) w
   same = same-by (tells (x .link) (hearsPeer (x .link .hello) && stale (x .link .interval) (x .link .factor) (x .link .heard) now))
 
 -- ---- the event
-module _ (s : rules.Settings) (now k : ℕ) (x y : Slot) (m₀ m₁ m₂ m₃ out out′ : List ℕ) (d : Plan) (r : Acted) (h : k < 8) where
+module _ (s : rules.Settings) (now k : ℕ) (t₀ t₁ t₂ m₀ m₁ m₂ m₃ out out′ : List ℕ) (d : Plan) (n : ℕ) (h : k < 8) where
   abbrev rows : List Row
   rows = rowsIn m₀
 
   abbrev slot : rules.Slot
-  slot = slotWith x k m₀
+  slot = slotNow t₀ k m₀
 
-  pub polled : Moves k (checkMove now (x .link)) x m₀ m₁ y → Leaves k (keptDropped now (slotWith y k m₁)) (rowsIn m₁) m₁ m₂ y
-      → Plans (poll.dueOf s now (rowsIn m₂) k (slotWith y k m₂)) k y m₂ d
-      → Acts k (dueSlot (dueOf (d .due)) s now (rowsIn m₂) k (slotWith y k m₂)) (rowsIn m₂) (octetsOf (dueSent (dueOf (d .due)) s (rowsIn m₂) k (slotWith y k m₂))) m₂ m₃ out out′ r
-      → Polls k now s x m₀ m₃ out out′ r
+  pub polled : MovesAt k (checkMove now (slotIn t₀ k .link)) t₀ t₁ m₀ m₁ → Leaves k (keptDropped now (slotNow t₁ k m₁)) (rowsIn m₁) m₁ m₂ (slotIn t₁ k)
+      → Plans (poll.dueOf s now (rowsIn m₂) k (slotNow t₁ k m₂)) k (slotIn t₁ k) m₂ d
+      → ActsAt k (dueSlot (dueKind (d .due)) s now (rowsIn m₂) k (slotNow t₁ k m₂)) (rowsIn m₂)
+      (octetsOf (dueSent (dueKind (d .due)) s (rowsIn m₂) k (slotNow t₁ k m₂))) t₁ t₂ m₂ m₃ out out′ n
+      → PollsAt k now s t₀ t₂ m₀ m₃ out out′ n
   polled a b c e =
-      let y₂ : slotWith y k m₂ ≡ left s now k rows slot = left-slot b h ∙ ap (keptDropped now) (left-slot a h) in
-      let r₂ : rowsIn m₂ ≡ clearedIf (entered s now k rows slot) k rows = left-rows b ∙ left-rows a in
-      let due : dueOf (d .due) ≡ poll.dueOf s now (clearedIf (entered s now k rows slot) k rows) k (left s now k rows slot) =
+      let y₂ : slotNow t₁ k m₂ ≡ left s now k rows slot = left-slot b h ∙ ap (keptDropped now) (left-slot (a .moves) h) in
+      let r₂ : rowsIn m₂ ≡ clearedIf (entered s now k rows slot) k rows = left-rows b ∙ left-rows (a .moves) in
+      let due : dueKind (d .due) ≡ poll.dueOf s now (clearedIf (entered s now k rows slot) k rows) k (left s now k rows slot) =
       c .which ∙ (λ i. poll.dueOf s now (r₂ i) k (y₂ i)) in
       let g = same s now k rows slot in
-      let to : dueSlot (dueOf (d .due)) s now (rowsIn m₂) k (slotWith y k m₂) ≡ pollSlot s now rows k slot = (λ i. dueSlot (due i) s now (r₂ i) k (y₂ i)) ∙ g .0 in
-      let what : dueSent (dueOf (d .due)) s (rowsIn m₂) k (slotWith y k m₂) ≡ pollSent s now rows k slot = (λ i. dueSent (due i) s (r₂ i) k (y₂ i)) ∙ g .1 in
-      let cleared = ap (λ (l : Link). clearedIf (enters (x .link .alignment) (l .alignment)) k rows) (sym (poll-link s now k rows slot)) in
+      let to : dueSlot (dueKind (d .due)) s now (rowsIn m₂) k (slotNow t₁ k m₂) ≡ pollSlot s now rows k slot = (λ i. dueSlot (due i) s now (r₂ i) k (y₂ i)) ∙ g .0 in
+      let what : dueSent (dueKind (d .due)) s (rowsIn m₂) k (slotNow t₁ k m₂) ≡ pollSent s now rows k slot = (λ i. dueSent (due i) s (r₂ i) k (y₂ i)) ∙ g .1 in
+      let cleared = ap (λ (l : Link). clearedIf (enters (slot .link .alignment) (l .alignment)) k rows) (sym (poll-link s now k rows slot)) in
       record {
-        left = leaves-as (leaves-then (leaves-then a b) (e .left)) _ _ to (r₂ ∙ cleared);
-        wrote = subst (λ (z : Sent). Wrote (octetsOf z) out out′ (r .written)) what (e .wrote);
+        acts = record {
+          left = leaves-as (leaves-then (leaves-then (a .moves) b) (e .acts .left)) _ _ to (r₂ ∙ cleared);
+          wrote = subst (λ (z : Sent). Wrote (octetsOf z) out out′ n) what (e .acts .wrote);
+        };
+        others = λ j q. e .others j q ∙ a .others j q;
       }

@@ -1,82 +1,39 @@
--- Updates: a packet with some records or none, and what the records of a CSU Request, a CSU Reply and a CSUS leave.
+-- What the records of a CSU Request, a CSU Reply and a CSUS leave.
 -- Assumes nothing.
-use Prim.Native.Nat.{ℕ, zero, suc, _≤_, _<_}
+use Prim.Native.Nat.{ℕ, _≤_, _<_}
 use mathlib.Core.Path.{_≡_, refl, sym, ap, _∙_, subst}
-use mathlib.Core.Bool.{Bool, true, false}
+use mathlib.Core.Bool.{Bool}
 use mathlib.Core.List.{List, [], _∷_, _++_, map}
 use native.Mathlib.Omega.{arith}
-use lib.ListN.{length, take}
+use lib.ListN.{length, length-map}
 use Rattle.laws.specs.Choice.{pick}
 use Rattle.laws.specs.Lists.{isEmpty}
-use Rattle.laws.specs.Puts.{written}
-use Rattle.protocol.specs.Messages.{CsaRecord, summaryOf, Body, csuRequest, csuReply}
+use Rattle.protocol.specs.Messages.{CsaRecord, summaryOf, csuRequest, csuReply}
 use Rattle.protocol.specs.Layouts.{packetOf}
 use Rattle.rules.specs.Server.{Row, Request}
-use Rattle.rules.specs.Updates.{UpdateRule, updateRule, rowsBy, requestsBy, isAcknowledged, Updated, allUpdated, allReplied, allSolicited}
-use Rattle.rules.specs.Slots.{completed, withKept}
+use Rattle.rules.specs.Updates.{UpdateRule, updateRule, rowsBy, requestsBy, isAcknowledged, Updated, allUpdated, solicited, allSolicited}
+use Rattle.rules.specs.Links.{withAlignment}
+use Rattle.rules.specs.Slots.{withLink, alignedIf, completed, withKept}
 use Rattle.rules.specs.Sent.{octetsOf}
 use Rattle.rules.specs.Packets.{updatedBy, unlessEmpty}
-use Rattle.memory.specs.Memory.{rowsIn, Memory, memoryOf, withRows, withRequests, requestsOf, keptOf}
+use Rattle.memory.specs.Memory.{rowsIn, Memory, memoryOf, withRows, requestsPut, requestsOf, keptOf}
 use Rattle.memory.specs.Memory as memories
-use Rattle.memory.specs.Entries.{rowsAs}
-use Rattle.records.specs.Walks.{updatedNow, UpdatesAll}
+use Rattle.wire.specs.declared.record.Cursor.{Cursor}
+use Rattle.wire.specs.Views.{recordsOf}
+use Rattle.records.specs.declared.put.Placed.{Placed}
+use Rattle.records.specs.Walks.{Walks, updatedNow, UpdatesAll}
+use Rattle.records.specs.Places.{Puts, Places}
 use Rattle.records.proofs.MemoryLaws.{both-requests}
+use Rattle.records.proofs.WalkLaws.{left-records}
 use Rattle.writer.specs.declared.write.Common.{Common}
-use Rattle.writer.specs.declared.write.CsaValue.{CsaValue}
-use Rattle.writer.specs.declared.write.Records.{Records}
-use Rattle.writer.specs.declared.write.Written.{Written}
-use Rattle.writer.specs.Write as writer
-use Rattle.writer.specs.Write.{Writes}
 use Rattle.slots.specs.declared.state.Settings.{Settings}
 use Rattle.slots.specs.declared.state.Slot.{Slot}
 use Rattle.slots.specs.State.{settingsOf, slotOf}
-use Rattle.actions.specs.declared.parts.Acted.{Acted}
-use Rattle.actions.specs.Parts.{slotWith, Leaves, Wrote, Acts}
-use Rattle.actions.specs.Steps.{commonOf, ourMessage, sizeOf, TakesRequest}
-use Rattle.actions.proofs.AlignmentLaws.{wrote-by}
-use Rattle.actions.proofs.PartLaws.{leaves-both, leaves-rows, leaves-kept, wrote-none}
-
--- ---- what is written
-module _ (s : Settings) (x : Slot) (body : List CsaRecord → Body) (rs : List CsaRecord) (out : List ℕ) where
-  -- no records, and nothing is written
-  pub none-wrote : isEmpty rs ≡ true → (qs : List Request) (kept : List ℕ)
-      → Wrote (octetsOf (unlessEmpty (settingsOf s) (slotOf x qs kept) body rs)) out out 0
-  none-wrote e qs kept = rw e (wrote-none out)
-
-  -- some, and a packet is
-  pub some-wrote : (c : Common) (out′ : List ℕ) (w : Written) (n : ℕ) → isEmpty rs ≡ false → 284 ≤ length out → c ≡ commonOf s (x .peer)
-      → Writes (packetOf (ourMessage c (body rs))) out out′ w → n ≡ sizeOf w → (qs : List Request) (kept : List ℕ)
-      → Wrote (octetsOf (unlessEmpty (settingsOf s) (slotOf x qs kept) body rs)) out out′ n
-  some-wrote c out′ w n e room f h size qs kept =
-      rw e
-      (subst (λ (y : Common). Wrote (packetOf (ourMessage y (body rs))) out out′ n) f
-      (wrote-by (packetOf (ourMessage c (body rs))) out out′ w n room h size))
-
--- ---- whether there are records
-values-none : (n : ℕ) (l : List CsaValue) → n ≡ 0 → isEmpty (map writer.recordOf (take n l)) ≡ true
-values-none n l e = rw e
-
-values-some : (n : ℕ) (l : List CsaValue) → (n ≡ 0 → ⊥) → length l ≡ 4 → isEmpty (map writer.recordOf (take n l)) ≡ false
-values-some zero l h e = absurd (h refl)
-values-some (suc n) [] h e = absurd (omega arith)
-values-some (suc n) (v ∷ l) h e = refl
-
-summaries-empty : (rs : List CsaRecord) → isEmpty (map summaryOf rs) ≡ isEmpty rs
-summaries-empty [] = refl
-summaries-empty (r ∷ rs) = refl
-
-module _ (r : Records) where
-  pub records-none : r .count ≡ 0 → isEmpty (writer.recordsOf r) ≡ true
-  records-none e = values-none (r .count) (r .list) e
-
-  pub records-some : (r .count ≡ 0 → ⊥) → length (r .list) ≡ 4 → isEmpty (writer.recordsOf r) ≡ false
-  records-some h e = values-some (r .count) (r .list) h e
-
-  pub summaries-none : r .count ≡ 0 → isEmpty (writer.summariesOf r) ≡ true
-  summaries-none e = summaries-empty (writer.recordsOf r) ∙ records-none e
-
-  pub summaries-some : (r .count ≡ 0 → ⊥) → length (r .list) ≡ 4 → isEmpty (writer.summariesOf r) ≡ false
-  summaries-some h e = summaries-empty (writer.recordsOf r) ∙ records-some h e
+use Rattle.table.specs.Words.{slotIn, Changes}
+use Rattle.actions.specs.Parts.{slotWith, Wrote}
+use Rattle.actions.specs.Steps.{commonOf, ourMessage, WritesSome, TakesRequest, TakesCsus}
+use Rattle.actions.proofs.PartLaws.{leaves-both, leaves-kept}
+use Rattle.actions.proofs.FinishLaws.{puts-within, places-within, octets-unless}
 
 -- ---- a CSU Request
 -- neither rows nor replies depend on the requests
@@ -92,7 +49,7 @@ module _ (live : ℕ → Bool) (k : ℕ) where
       let u : UpdateRule = updateRule r rows in
       apart rs (rowsBy u live k r rows) (pick (isAcknowledged u) (replies ++ (r ∷ [])) replies) (requestsBy u r a) (requestsBy u r b)
 
-module _ (live : ℕ → Bool) (k : ℕ) (rs : List CsaRecord) (before after : List ℕ) (records : Records) (u : UpdatesAll live k rs before after records) where
+module _ (live : ℕ → Bool) (k : ℕ) (rs : List CsaRecord) (before after : List ℕ) (u : UpdatesAll live k rs before after) where
   now-updated : Updated
   now-updated = allUpdated live k rs (updatedNow k [] before)
 
@@ -100,43 +57,78 @@ module _ (live : ℕ → Bool) (k : ℕ) (rs : List CsaRecord) (before after : L
   unfolding now-updated
   same-parts = apart live k rs (rowsIn before) [] (requestsOf (memoryOf before) k) []
 
-  pub request-taken : (s : Settings) (x y : Slot) (out out′ : List ℕ) (n : ℕ) → k < 8
-      → ((qs : List Request) (kept : List ℕ) → Wrote (octetsOf (unlessEmpty (settingsOf s) (slotOf x qs kept) csuReply (writer.summariesOf records))) out out′ n)
-      → slotWith y k after ≡ completed (slotWith x k after)
-      → TakesRequest live k (settingsOf s) rs x before after out out′ (record { slot = y; written = n })
+  -- the reply, of what was put
+  reply-wrote : (s : Settings) (x : Slot) (c : Common) (to : Placed) (out mid out′ : List ℕ) (n : ℕ) → 284 ≤ length out → c ≡ commonOf s (x .peer)
+      → Places 32 (map summaryOf (allUpdated live k rs (updatedNow k [] before) .replies)) 28 out mid to × (to .count ≤ 4)
+      → WritesSome csuReply c (to .count) (to .next) mid out′ n
+      → Wrote (octetsOf (unlessEmpty (settingsOf s) (slotWith x k before) csuReply (map summaryOf (updatedBy live k rs (rowsIn before) [] .replies)))) out out′ n
   unfolding now-updated
-  request-taken s x y out out′ n below w e =
+  reply-wrote s x c to out mid out′ n long e p w =
+      let old : List CsaRecord = map summaryOf (now-updated .replies) in
+      let h = places-within 32 old 28 out mid to p (omega arith) in
+      let wrote = w old out (p .0 .count) (omega arith) (p .0 .puts .octets) in
+      let new : List CsaRecord = map summaryOf (updatedBy live k rs (rowsIn before) [] .replies) in
+      let same : old ≡ new = ap (map summaryOf) (same-parts .1) in
+      subst (λ (l : List ℕ). Wrote l out out′ n)
+      ((λ i. pick (isEmpty (same i)) [] (packetOf (ourMessage (e i) (csuReply (same i)))))
+      ∙ octets-unless (isEmpty new) (ourMessage (commonOf s (x .peer)) (csuReply new))) wrote
+
+  pub request-taken : (s : Settings) (t t′ : List ℕ) (c : Common) (to : Placed) (out mid out′ : List ℕ) (n : ℕ) → k < 8 → 284 ≤ length out
+      → c ≡ commonOf s (slotIn t k .peer)
+      → Places 32 (map summaryOf (allUpdated live k rs (updatedNow k [] before) .replies)) 28 out mid to × (to .count ≤ 4)
+      → WritesSome csuReply c (to .count) (to .next) mid out′ n
+      → Changes k (λ x. withLink (withAlignment (alignedIf (isEmpty (requestsOf (memoryOf after) k)) (x .link .alignment)) (x .link)) x) t t′
+      → TakesRequest live k (settingsOf s) rs t t′ before after out out′ n
+  unfolding now-updated
+  request-taken s t t′ c to out mid out′ n below long peer p w done =
+      let x : Slot = slotIn t k in
+      let y : Slot = slotIn t′ k in
+      let e : slotWith y k after ≡ completed (slotWith x k after) = done .slot (requestsOf (memoryOf after) k) (keptOf (memoryOf after) k) in
       let qs : requestsOf (memoryOf after) k ≡ now-updated .requests =
-      both-requests before after k (now-updated .rows) (now-updated .requests) (u .memory) below in
-      let kept : keptOf (memoryOf after) k ≡ keptOf (memoryOf before) k = ap (λ (m : Memory). keptOf m k) (u .memory) in
+      both-requests before after k (now-updated .rows) (now-updated .requests) u below in
+      let kept : keptOf (memoryOf after) k ≡ keptOf (memoryOf before) k = ap (λ (m : Memory). keptOf m k) u in
       record {
-        left =
-            leaves-both k (completed (slotOf x (now-updated .requests) (keptOf (memoryOf before) k))) before after y
-            (updatedBy live k rs (rowsIn before) [] .rows) (now-updated .requests)
-            (u .memory ∙ ap (λ (rows : List Row). withRows rows (withRequests k (now-updated .requests) (memoryOf before))) (same-parts .0))
-            ((λ z. slotOf y (sym qs z) (sym kept z)) ∙ e ∙ (λ z. completed (slotOf x (qs z) (kept z))));
-        wrote =
-            subst (λ (l : List CsaRecord). Wrote (octetsOf (unlessEmpty (settingsOf s) (slotWith x k before) csuReply (map summaryOf l))) out out′ n)
-            (u .replies ∙ same-parts .1) (w (requestsOf (memoryOf before) k) (keptOf (memoryOf before) k));
+        acts = record {
+          left =
+              leaves-both k (completed (slotOf x (now-updated .requests) (keptOf (memoryOf before) k))) before after y
+              (updatedBy live k rs (rowsIn before) [] .rows) (now-updated .requests)
+              (u ∙ ap (λ (rows : List Row). withRows rows (requestsPut k (now-updated .requests) (memoryOf before))) (same-parts .0))
+              ((λ z. slotOf y (sym qs z) (sym kept z)) ∙ e ∙ (λ z. completed (slotOf x (qs z) (kept z))));
+          wrote = reply-wrote s x c to out mid out′ n long peer p w;
+        };
+        others = done .others;
       }
 
--- ---- a CSU Reply
-pub reply-taken : (k : ℕ) (rs : List CsaRecord) (before after : List ℕ) (x : Slot) (r : Acted) → memoryOf after ≡ rowsAs (allReplied k rs) before
-    → r ≡ record { slot = x; written = 0 }
-    → Leaves k (slotWith x k before) (allReplied k rs (rowsIn before)) before after (r .slot) × (r .written ≡ 0)
-reply-taken k rs before after x r e f =
-    rw f (leaves-rows k (slotWith x k before) before after x (allReplied k rs (rowsIn before)) e refl, refl)
-
 -- ---- a CSUS
-pub csus-taken : (s : Settings) (k : ℕ) (rs : List CsaRecord) (before after : List ℕ) (x : Slot) (records : Records) (out out′ : List ℕ) (n : ℕ)
-    → writer.recordsOf records ≡ allSolicited (rowsIn before) rs
-    → ((qs : List Request) (kept : List ℕ) → Wrote (octetsOf (unlessEmpty (settingsOf s) (slotOf x qs kept) csuRequest (writer.recordsOf records))) out out′ n)
-    → memoryOf after ≡ memories.withKept k [] (memoryOf before)
-    → Acts k (withKept [] (slotWith x k before)) (rowsIn before)
-    (octetsOf (unlessEmpty (settingsOf s) (slotWith x k before) csuRequest (allSolicited (rowsIn before) rs))) before after out out′ (record { slot = x; written = n })
-csus-taken s k rs before after x records out out′ n e w m = record {
-  left = leaves-kept k (withKept [] (slotWith x k before)) before after x [] m refl;
-  wrote =
-      subst (λ (l : List CsaRecord). Wrote (octetsOf (unlessEmpty (settingsOf s) (slotWith x k before) csuRequest l)) out out′ n)
-      e (w (requestsOf (memoryOf before) k) (keptOf (memoryOf before) k));
-}
+-- an answer to each record
+solicited-length : (rows : List Row) (p : List ℕ) (at : Cursor) → length (allSolicited rows (recordsOf p at)) ≡ at .left
+solicited-length rows p at = length-map (recordsOf p at) (solicited rows) ∙ left-records p at
+
+pub solicited-within : (rows : List Row) (p : List ℕ) (at : Cursor) (out mid : List ℕ) (next : ℕ) → Walks p at
+    → Puts 64 (allSolicited rows (recordsOf p at)) 28 out mid next → (28 ≤ next) × (next ≤ 284)
+solicited-within rows p at out mid next walks puts =
+    let size = solicited-length rows p at in
+    let few = walks .few in
+    puts-within 64 (allSolicited rows (recordsOf p at)) 28 out mid next puts (omega arith) (omega arith)
+
+pub csus-taken : (s : Settings) (k : ℕ) (p : List ℕ) (at : Cursor) (before after t : List ℕ) (c : Common) (out mid out′ : List ℕ) (next n : ℕ)
+    → 284 ≤ length out → Walks p at → c ≡ commonOf s (slotIn t k .peer) → Puts 64 (allSolicited (rowsIn before) (recordsOf p at)) 28 out mid next
+    → WritesSome csuRequest c (at .left) next mid out′ n
+    → memoryOf after ≡ memories.keptPut k [] (memoryOf before)
+    → TakesCsus k (settingsOf s) (recordsOf p at) t before after out out′ n
+csus-taken s k p at before after t c out mid out′ next n long walks e puts w m =
+    let x : Slot = slotIn t k in
+    let rs : List CsaRecord = allSolicited (rowsIn before) (recordsOf p at) in
+    let size : length rs ≡ at .left = solicited-length (rowsIn before) p at in
+    let h = solicited-within (rowsIn before) p at out mid next walks puts in
+    let wrote = w rs out (sym size) (omega arith) (puts .octets) in
+    record {
+      acts = record {
+        left = leaves-kept k (withKept [] (slotWith x k before)) before after x [] m refl;
+        wrote =
+            subst (λ (l : List ℕ). Wrote l out out′ n)
+            (ap (λ (y : Common). pick (isEmpty rs) [] (packetOf (ourMessage y (csuRequest rs)))) e
+            ∙ octets-unless (isEmpty rs) (ourMessage (commonOf s (x .peer)) (csuRequest rs))) wrote;
+      };
+      others = λ j q. refl;
+    }

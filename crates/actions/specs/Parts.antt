@@ -4,26 +4,30 @@ use Prim.Native.Nat.{ℕ}
 use mathlib.Core.Path.{_≡_}
 use mathlib.Core.Bool.{Bool, true, false}
 use mathlib.Core.List.{List, []}
-use lib.ListN.{length}
 use lib.ListN as lists
-use Rattle.laws.specs.Puts.{written}
 use Rattle.protocol.specs.declared.Link.{Link}
 use Rattle.rules.specs.Server as rules
 use Rattle.rules.specs.Server.{Row}
 use Rattle.rules.specs.Links.{enters}
 use Rattle.rules.specs.Rows.{clearedIf}
 use Rattle.rules.specs.Slots.{moved}
-use Rattle.memory.specs.Memory.{rowsIn, Memory, memoryOf, withRequests, withKept, requestsOf, keptOf}
+use Rattle.memory.specs.Memory.{rowsIn, Memory, memoryOf, requestsPut, keptPut, requestsOf, keptOf}
+use Rattle.writer.specs.Write as writer
 use Rattle.slots.specs.declared.state.Slot.{Slot}
 use Rattle.slots.specs.State.{slotOf}
+use Rattle.table.specs.Words.{slotIn}
 use Rattle.actions.specs.declared.parts.Acted.{Acted}
 
 -- slot k with its part of the memory
 abbrev pub slotWith : Slot → ℕ → List ℕ → rules.Slot
 slotWith x k memory = slotOf x (requestsOf (memoryOf memory) k) (keptOf (memoryOf memory) k)
 
+-- of the table
+abbrev pub slotNow : List ℕ → ℕ → List ℕ → rules.Slot
+slotNow slots k memory = slotWith (slotIn slots k) k memory
+
 abbrev pub emptiedIf : Bool → ℕ → Memory → Memory
-emptiedIf true k m = withKept k [] (withRequests k [] m)
+emptiedIf true k m = keptPut k [] (requestsPut k [] m)
 emptiedIf false k m = m
 
 -- a slot struct and its part of the memory are this slot, and the rows are these
@@ -40,13 +44,22 @@ abbrev pub Moves : ℕ → Link → Slot → List ℕ → List ℕ → Slot → 
 Moves k l x before after r =
     Leaves k (moved l (slotWith x k before)) (clearedIf (enters (x .link .alignment) (l .alignment)) k (rowsIn before)) before after r
 
+-- the same in the table, whose other slots stay
+pub record MovesAt (k : ℕ) (l : Link) (slots slots′ before after : List ℕ) : Type 0 where
+  pub moves : Moves k l (slotIn slots k) before after (slotIn slots′ k)
+  pub others : (j : ℕ) → (j ≡ k → ⊥) → slotIn slots′ j ≡ slotIn slots j
+
 -- ---- what is written
 -- p is at the start of a lent slice, and n is its length
-pub record Wrote (p before after : List ℕ) (n : ℕ) : Type 0 where
-  pub size : n ≡ length p
-  pub octets : after ≡ written p before
+abbrev pub Wrote : List ℕ → List ℕ → List ℕ → ℕ → Type 0
+Wrote p before after n = writer.Wrote p before after n
 
 -- both, of an event before its end
 pub record Acts (k : ℕ) (slot : rules.Slot) (rows : List Row) (p before after out out′ : List ℕ) (r : Acted) : Type 0 where
   pub left : Leaves k slot rows before after (r .slot)
   pub wrote : Wrote p out out′ (r .written)
+
+-- the same in the table, whose other slots stay
+pub record ActsAt (k : ℕ) (slot : rules.Slot) (rows : List Row) (p slots slots′ before after out out′ : List ℕ) (n : ℕ) : Type 0 where
+  pub acts : Acts k slot rows p before after out out′ (record { slot = slotIn slots′ k; written = n })
+  pub others : (j : ℕ) → (j ≡ k → ⊥) → slotIn slots′ j ≡ slotIn slots j

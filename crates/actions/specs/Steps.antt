@@ -1,16 +1,21 @@
 -- What each function on a slot leaves and answers, in the words of the rules.
 -- Assumes nothing.
-use Prim.Native.Nat.{ℕ}
+use Prim.Native.Nat.{ℕ, _≤_}
 use mathlib.Core.Path.{_≡_}
 use mathlib.Core.Bool.{Bool, true, false}
 use mathlib.Core.List.{List, [], _∷_, map}
+use lib.ListN.{length}
+use Rattle.laws.specs.Choice.{pick}
+use Rattle.laws.specs.Lists.{isEmpty}
+use Rattle.laws.specs.Puts.{Put}
 use Rattle.protocol.specs.declared.CaHead.{CaHead}
 use Rattle.protocol.specs.declared.Role.{Role}
 use Rattle.protocol.specs.declared.Role.the-variants.{Master, Slave}
 use Rattle.protocol.specs.declared.Link.{Link}
 use Rattle.protocol.specs.Fields.{field4}
 use Rattle.protocol.specs.Numbers as numbers
-use Rattle.protocol.specs.Messages.{CsaRecord, summaryOf, Message, Body, csuReply}
+use Rattle.protocol.specs.Messages.{CsaRecord, summaryOf, Message, Body, csuRequest, csuReply}
+use Rattle.protocol.specs.Layouts.{recordsOctets, packetOf}
 use Rattle.protocol.specs.Reading.{flagsAt}
 use Rattle.rules.specs.Server as rules
 use Rattle.rules.specs.Server.{Row, Request}
@@ -18,50 +23,53 @@ use Rattle.rules.specs.Links as links
 use Rattle.rules.specs.Links.{enters}
 use Rattle.rules.specs.Rows.{behind, nextWaiting, clearedIf}
 use Rattle.rules.specs.Requests.{allTakenIn, rotated}
+use Rattle.rules.specs.Slots as slots
 use Rattle.rules.specs.Slots.{withLink, withRequests, completed}
 use Rattle.rules.specs.Sent.{octetsOf}
 use Rattle.rules.specs.Alignment.{CaPacket, caPacket, wantedOf, withWanted, caSentBy, caSlot}
+use Rattle.rules.specs.Updates.{allSolicited}
 use Rattle.rules.specs.Packets.{updatedBy, unlessEmpty}
 use Rattle.rules.specs.Poll as poll
 use Rattle.rules.specs.Poll.{dueSlot, dueSent, pollSlot, pollSent}
 use Rattle.memory.specs.declared.next.Picks.{Picks}
-use Rattle.memory.specs.Memory.{rowsIn, memoryOf, withKept, requestsOf}
+use Rattle.memory.specs.Memory.{rowsIn, memoryOf, keptPut, requestsOf}
 use Rattle.memory.specs.Memory as memories
 use Rattle.memory.specs.Marks.{Picked}
 use Rattle.wire.specs.declared.read.Head.{Head}
 use Rattle.wire.specs.Views.{recordsOf, messageOf}
 use Rattle.writer.specs.declared.write.Common.{Common}
-use Rattle.writer.specs.declared.write.Written.{Written}
-use Rattle.writer.specs.declared.write.Written.the-variants.{Octets, TooShort}
 use Rattle.writer.specs.Write as writer
 use Rattle.slots.specs.declared.state.Settings.{Settings}
 use Rattle.slots.specs.declared.state.Slot.{Slot}
 use Rattle.slots.specs.State.{slotOf}
+use Rattle.table.specs.Words.{slotIn}
 use Rattle.actions.specs.declared.parts.Acted.{Acted}
-use Rattle.actions.specs.declared.poll.Due.{Due}
-use Rattle.actions.specs.declared.poll.Due.the-variants.{Nothing, Hello, FirstCa, KeptCa, Csus, Update}
-use Rattle.actions.specs.declared.poll.Plan.{Plan}
-use Rattle.actions.specs.Parts.{slotWith, Wrote, Acts}
+use Rattle.actions.specs.declared.due.Due.{Due}
+use Rattle.actions.specs.declared.due.Due.the-variants.{Nothing, Hello, FirstCa, KeptCa, Csus, Update}
+use Rattle.actions.specs.declared.due.Plan.{Plan}
+use Rattle.actions.specs.Parts.{slotWith, slotNow, Wrote, Acts, ActsAt}
 
 -- ---- what is written
 abbrev pub commonOf : Settings → List ℕ → Common
 commonOf s peer = record { protocol = s .protocol; group = s .group; sender = s .id; receiver = peer }
 
 abbrev pub ourMessage : Common → Body → Message
-ourMessage c b = writer.messageOf c (c .receiver) b
+ourMessage c b = writer.messageFrom c (c .receiver) b
 
-abbrev pub sizeOf : Written → ℕ
-sizeOf (Octets n) = n
-sizeOf TooShort = 0
+-- records that were put from octet 28 up to n are a packet, its head before them; with none nothing is written
+abbrev pub WritesSome : (List CsaRecord → Body) → Common → ℕ → ℕ → List ℕ → List ℕ → ℕ → Type 0
+WritesSome body c count n before after r =
+    (rs : List CsaRecord) (out : List ℕ) → count ≡ length rs → n ≤ length out → Put (recordsOctets [] rs) 28 out before n
+    → Wrote (pick (isEmpty rs) [] (packetOf (ourMessage c (body rs)))) out after r
 
 -- a CA is written and kept
 pub record SendsCa (k : ℕ) (p before after out out′ : List ℕ) (r : ℕ) : Type 0 where
-  pub memory : memoryOf after ≡ withKept k p (memoryOf before)
+  pub memory : memoryOf after ≡ keptPut k p (memoryOf before)
   pub wrote : Wrote p out out′ r
 
 -- a CSUS is written, and its requests move to the end
 pub record SendsCsus (k : ℕ) (p before after out out′ : List ℕ) (r : ℕ) : Type 0 where
-  pub memory : memoryOf after ≡ memories.withRequests k (rotated (requestsOf (memoryOf before) k)) (memoryOf before)
+  pub memory : memoryOf after ≡ memories.requestsPut k (rotated (requestsOf (memoryOf before) k)) (memoryOf before)
   pub wrote : Wrote p out out′ r
 
 -- ---- a CA
@@ -99,21 +107,26 @@ TakesCa u k now s c x before after out out′ r =
     (octetsOf (caSentBy u s (rowsIn before) c (slotWith x k before))) before after out out′ r
 
 -- ---- updates
-abbrev pub TakesRequest : (ℕ → Bool) → ℕ → rules.Settings → List CsaRecord → Slot → List ℕ → List ℕ → List ℕ → List ℕ → Acted → Type 0
-TakesRequest live k s rs x before after out out′ r =
-    let y = slotWith x k before in
-    Acts k (completed (withRequests (updatedBy live k rs (rowsIn before) (y .requests) .requests) (y .missed) y))
+abbrev pub TakesRequest : (ℕ → Bool) → ℕ → rules.Settings → List CsaRecord → List ℕ → List ℕ → List ℕ → List ℕ → List ℕ → List ℕ → ℕ → Type 0
+TakesRequest live k s rs slots slots′ before after out out′ n =
+    let y = slotNow slots k before in
+    ActsAt k (completed (withRequests (updatedBy live k rs (rowsIn before) (y .requests) .requests) (y .missed) y))
     (updatedBy live k rs (rowsIn before) [] .rows)
-    (octetsOf (unlessEmpty s y csuReply (map summaryOf (updatedBy live k rs (rowsIn before) [] .replies)))) before after out out′ r
+    (octetsOf (unlessEmpty s y csuReply (map summaryOf (updatedBy live k rs (rowsIn before) [] .replies)))) slots slots′ before after out out′ n
+
+abbrev pub TakesCsus : ℕ → rules.Settings → List CsaRecord → List ℕ → List ℕ → List ℕ → List ℕ → List ℕ → ℕ → Type 0
+TakesCsus k s rs t before after out out′ n =
+    let y = slotNow t k before in
+    ActsAt k (slots.withKept [] y) (rowsIn before) (octetsOf (unlessEmpty s y csuRequest (allSolicited (rowsIn before) rs))) t t before after out out′ n
 
 -- ---- a poll
-abbrev pub dueOf : Due → poll.Due
-dueOf Nothing = poll.nothingDue
-dueOf Hello = poll.aHello
-dueOf FirstCa = poll.firstCa
-dueOf KeptCa = poll.keptCa
-dueOf Csus = poll.aCsus
-dueOf Update = poll.anUpdate
+abbrev pub dueKind : Due → poll.Due
+dueKind Nothing = poll.nothingDue
+dueKind Hello = poll.aHello
+dueKind FirstCa = poll.firstCa
+dueKind KeptCa = poll.keptCa
+dueKind Csus = poll.aCsus
+dueKind Update = poll.anUpdate
 
 abbrev pub noPicks : Picks
 noPicks = record { count = 0; rows = 0 ∷ 0 ∷ 0 ∷ 0 ∷ []; next = 0 }
@@ -128,14 +141,14 @@ GoodPicks Csus k x memory p = Unit {0}
 GoodPicks Update k x memory p = Picked (x .cursor) (nextWaiting (rowsIn memory) k (x .cursor)) p
 
 pub record Plans (d : poll.Due) (k : ℕ) (x : Slot) (memory : List ℕ) (r : Plan) : Type 0 where
-  pub which : dueOf (r .due) ≡ d
+  pub which : dueKind (r .due) ≡ d
   pub rows : GoodPicks (r .due) k x memory (r .picks)
 
 -- what is due is written, with what follows for slot k's part of the memory
 pub record WritesDue (d : poll.Due) (k : ℕ) (s : rules.Settings) (x : Slot) (before after out out′ : List ℕ) (r : ℕ) : Type 0 where
   pub memory : (now : ℕ) → memoryOf after
-      ≡ withKept k (dueSlot d s now (rowsIn before) k (slotWith x k before) .kept)
-      (memories.withRequests k (dueSlot d s now (rowsIn before) k (slotWith x k before) .requests) (memoryOf before))
+      ≡ keptPut k (dueSlot d s now (rowsIn before) k (slotWith x k before) .kept)
+      (memories.requestsPut k (dueSlot d s now (rowsIn before) k (slotWith x k before) .requests) (memoryOf before))
   pub wrote : Wrote (octetsOf (dueSent d s (rowsIn before) k (slotWith x k before))) out out′ r
 
 -- the slot after it
@@ -146,8 +159,13 @@ SlotDue d now p x r =
     → slotOf r (dueSlot d s now rows k (slotOf x qs kept) .requests) (dueSlot d s now rows k (slotOf x qs kept) .kept)
     ≡ dueSlot d s now rows k (slotOf x qs kept)
 
-abbrev pub Polls : ℕ → ℕ → rules.Settings → Slot → List ℕ → List ℕ → List ℕ → List ℕ → Acted → Type 0
-Polls k now s x before after out out′ r =
-    let y = pollSlot s now (rowsIn before) k (slotWith x k before) in
-    Acts k y (clearedIf (enters (x .link .alignment) (y .link .alignment)) k (rowsIn before))
-    (octetsOf (pollSent s now (rowsIn before) k (slotWith x k before))) before after out out′ r
+pub record PutsDue (d : poll.Due) (now : ℕ) (p : Picks) (k : ℕ) (before after : List ℕ) : Type 0 where
+  pub slot : SlotDue d now p (slotIn before k) (slotIn after k)
+  pub others : (j : ℕ) → (j ≡ k → ⊥) → slotIn after j ≡ slotIn before j
+
+abbrev pub PollsAt : ℕ → ℕ → rules.Settings → List ℕ → List ℕ → List ℕ → List ℕ → List ℕ → List ℕ → ℕ → Type 0
+PollsAt k now s slots slots′ before after out out′ n =
+    let x = slotNow slots k before in
+    let y = pollSlot s now (rowsIn before) k x in
+    ActsAt k y (clearedIf (enters (x .link .alignment) (y .link .alignment)) k (rowsIn before))
+    (octetsOf (pollSent s now (rowsIn before) k x)) slots slots′ before after out out′ n

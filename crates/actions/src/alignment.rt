@@ -19,7 +19,8 @@ ghost use Rattle.records.specs.Walks.{Walks};
 ghost use Rattle.wire.specs.Views.{recordsOf};
 ghost use Rattle.slots.specs.State.{settingsOf, slotOf, ruleOf, caIn};
 ghost use Rattle.actions.specs.Parts.{slotWith, Leaves, Wrote, Acts};
-ghost use Rattle.actions.specs.Steps.{commonOf, sizeOf, ourMessage, SendsCa, headAt, caPacketAt, isMaster, answers, takingIn, TakesCa};
+ghost use Rattle.actions.specs.Steps.{ourMessage, SendsCa, headAt, caPacketAt, isMaster, answers, takingIn, TakesCa};
+use crate::packets;
 use crate::parts;
 use crate::parts::Acted;
 use memory::kept;
@@ -31,7 +32,6 @@ use protocol::CaHead;
 use protocol::CaNumber;
 use protocol::Link;
 use protocol::Role;
-use records::held;
 use records::summaries;
 use slots::alignment;
 use slots::alignment::CaRule;
@@ -41,52 +41,10 @@ use slots::state::Settings;
 use slots::state::Slot;
 use wire::read;
 use wire::read::Head;
-use writer::write;
 use writer::write::Common;
-use writer::write::Written;
 
 // ---- what is written
-// Our group and the two servers.
-pub fn common(s: Settings, peer: [u8; 4]) -> Common
-    ensures { λ r. ⌜ r ≡ commonOf s peer ⌝ }
-{
-    let id = s.id;
-    Common {
-        protocol: s.protocol,
-        group: s.group,
-        sender: id,
-        receiver: peer,
-    }
-}
-
-pub fn size_of(w: Written) -> usize
-    ensures { λ r. ⌜ r ≡ sizeOf w ⌝ }
-{
-    match w {
-        Written::Octets(n) => n,
-        Written::TooShort => 0,
-    }
-}
-
-// A CA with the rows that were picked.
-fn write_ca(
-    memory: &[u8],
-    c: Common,
-    number: CaNumber,
-    flags: CaFlags,
-    picks: Picks,
-    out: &mut [u8],
-) -> usize
-    requires { ⌜ ((length (now memory) ≡ memorySize) × (284 ≤ length (now out))) × ((picks .count ≤ 4) × (length (picks .rows) ≡ 4)) ⌝ }
-    ensures { λ r. ⌜ Wrote (packetOf (ourMessage c (ca number flags (rowsOf rules.summaryRecord (rowsIn (now (memory .entry))) (picksOf picks)))))
-        (now (out .entry)) (now (out .exit)) r ⌝ }
-    ensures most { λ r. ⌜ r ≤ 284 ⌝ }
-{
-    let records = held::picked(memory, picks);
-    size_of(write::write_ca(out, c, number, flags, records))
-}
-
-// It is kept octet for octet.
+// A CA with the rows that were picked, kept octet for octet.
 pub fn send_ca(
     memory: &mut [u8],
     k: usize,
@@ -100,7 +58,7 @@ pub fn send_ca(
     ensures { λ r. ⌜ SendsCa k (packetOf (ourMessage c (ca number flags (rowsOf rules.summaryRecord (rowsIn (now (memory .entry))) (picksOf picks)))))
         (now (memory .entry)) (now (memory .exit)) (now (out .entry)) (now (out .exit)) r ⌝ }
 {
-    let n = write_ca(memory, c, number, flags, picks, out);
+    let n = packets::write_ca(memory, c, number, flags, picks, out);
     kept::keep(memory, k, octets::first(out, n));
     n
 }
@@ -124,7 +82,7 @@ pub fn rule_for(memory: &[u8], id: &[u8], p: &[u8], h: Head, k: usize, x: Slot) 
     let kept = kept::kept_len(memory, k) != 0;
     let records = h.records;
     let l = x.link;
-    alignment::ca_rule(id, head, read::sender(p, h), records.left == 0, kept, l)
+    slots::rule::ca_rule(id, head, read::sender(p, h), records.left == 0, kept, l)
 }
 
 // ---- the answer
@@ -217,7 +175,15 @@ fn send_answer(
     let peer = x.peer;
     let l = x.link;
     let number = l.number;
-    let n = send_ca(memory, k, common(s, peer), number, flags_of(l), picks, out);
+    let n = send_ca(
+        memory,
+        k,
+        packets::common(s, peer),
+        number,
+        flags_of(l),
+        picks,
+        out,
+    );
     let y = state::ca_sent(state::with_listed(x, picks.next), time);
     let slot = complete(memory, k, y);
     Acted { slot, written: n }
@@ -254,7 +220,7 @@ pub fn repeat(memory: &[u8], k: usize, time: u32, x: Slot, out: &mut [u8]) -> Ac
     ensures { λ r. ⌜ (slotWith (r .slot) k (now (memory .entry)) ≡ slots.caSent time (slotWith x k (now (memory .entry))))
         × Wrote (keptIn (now (memory .entry)) k) (now (out .entry)) (now (out .exit)) (r .written) ⌝ }
 {
-    let n = kept::give(memory, k, out);
+    let n = kept::copy_kept(memory, k, out);
     let slot = state::ca_sent(x, time);
     Acted { slot, written: n }
 }

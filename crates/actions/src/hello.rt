@@ -8,31 +8,27 @@ ghost use Rattle.rules.specs.Links as links;
 ghost use Rattle.rules.specs.Packets as rules;
 ghost use Rattle.memory.specs.Layout.{memorySize};
 ghost use Rattle.wire.specs.Views.{messageOf, receiversOf};
-ghost use Rattle.actions.specs.Parts.{Moves};
-use crate::parts;
-use slots::hello;
-use slots::state::Slot;
+ghost use Rattle.table.specs.Words.{tableSize, slotIn};
+ghost use Rattle.actions.specs.Parts.{MovesAt};
+use crate::moves;
 use wire::read;
 use wire::read::Head;
+use wire::record;
 use wire::record::Cursor;
-use wire::record::NextReceiver;
 
 // Whether an additional receiver is us.
 fn any_receiver(id: &[u8], p: &[u8], c: Cursor) -> bool
     requires { ⌜ c .at + c .left * 65535 ≤ 1048576 ⌝ }
     ensures { λ r. ⌜ r ≡ has (same (now (id .entry))) (receiversOf (now (p .entry)) c) ⌝ }
 {
-    let mut at = c;
-    while at.left > 0 {
-        match at.receiver(p) {
-            NextReceiver::Receiver(place, next) => {
-                if octets::same(id, octets::part_of(p, place, 4)) {
-                    return true;
-                }
-                at = next;
-            }
-            NextReceiver::NoReceiver => return false,
+    let mut at = c.at;
+    let mut left = c.left;
+    while left > 0 {
+        if octets::same(id, record::receiver(p, at)) {
+            return true;
         }
+        at += 5;
+        left -= 1;
     }
     false
 }
@@ -51,41 +47,21 @@ fn names_us(id: &[u8], p: &[u8], h: Head) -> bool
 
 // A Hello is taken.
 pub fn take_hello(
+    slots: &mut [usize],
     memory: &mut [u8],
     id: &[u8],
     p: &[u8],
     h: Head,
     k: usize,
     time: u32,
-    x: Slot,
-) -> Slot
-    requires { ⌜ (length (now memory) ≡ memorySize) × ((k < 8) × (h .records .at + h .records .left * 65535 ≤ 1048576)) ⌝ }
-    ensures { λ r. ⌜ Moves k (links.helloMove time (field2 (now (p .entry)) 8) (field2 (now (p .entry)) 10)
-        (rules.namesUs (now (id .entry)) (messageOf (now (p .entry)) h .receiver) (receiversOf (now (p .entry)) (h .records))) (x .link)) x
-        (now (memory .entry)) (now (memory .exit)) r ⌝ }
+)
+    requires { ⌜ ((length (now slots) ≡ tableSize) × ((length (now memory) ≡ memorySize) × (k < 8))) × (h .records .at + h .records .left * 65535 ≤ 1048576) ⌝ }
+    ensures { λ _. ⌜ MovesAt k (links.helloMove time (field2 (now (p .entry)) 8) (field2 (now (p .entry)) 10)
+        (rules.namesUs (now (id .entry)) (messageOf (now (p .entry)) h .receiver) (receiversOf (now (p .entry)) (h .records)))
+        (slotIn (now (slots .entry)) k .link)) (now (slots .entry)) (now (slots .exit)) (now (memory .entry)) (now (memory .exit)) ⌝ }
 {
     let named = names_us(id, p, h);
     let interval = read::interval(p);
     let factor = read::dead_factor(p);
-    let old = x.link;
-    let l = hello::hello_move(old, time, interval, factor, named);
-    parts::move_link(memory, k, x, l)
-}
-
-// A Hello is refused with 10.
-pub fn take_malformed(memory: &mut [u8], k: usize, x: Slot) -> Slot
-    requires { ⌜ (length (now memory) ≡ memorySize) × (k < 8) ⌝ }
-    ensures { λ r. ⌜ Moves k (links.malformedMove (x .link)) x (now (memory .entry)) (now (memory .exit)) r ⌝ }
-{
-    let old = x.link;
-    parts::move_link(memory, k, x, hello::malformed_move(old))
-}
-
-// The Hello check of a poll.
-pub fn check(memory: &mut [u8], k: usize, time: u32, x: Slot) -> Slot
-    requires { ⌜ (length (now memory) ≡ memorySize) × (k < 8) ⌝ }
-    ensures { λ r. ⌜ Moves k (links.checkMove time (x .link)) x (now (memory .entry)) (now (memory .exit)) r ⌝ }
-{
-    let old = x.link;
-    parts::move_link(memory, k, x, hello::check_move(old, time))
+    moves::hear(slots, memory, k, time, interval, factor, named)
 }

@@ -5,7 +5,7 @@ ghost use Prim.Native.Nat.{_<_};
 ghost use lib.ListN.{length};
 ghost use Rattle.rules.specs.Rows.{clearedIf};
 ghost use Rattle.memory.specs.Layout.{memorySize};
-ghost use Rattle.memory.specs.Memory.{rowsIn, memoryOf, withRows, withRequests, withKept};
+ghost use Rattle.memory.specs.Memory.{rowsIn, memoryOf, withRows, requestsPut, keptPut};
 ghost use Rattle.actions.specs.Parts.{emptiedIf, Moves};
 use memory::kept;
 use memory::marks;
@@ -35,7 +35,7 @@ pub fn silent(x: Slot) -> Acted
 // No requests, no kept CA.
 pub fn empty_lists(memory: &mut [u8], k: usize)
     requires { ⌜ (length (now memory) ≡ memorySize) × (k < 8) ⌝ }
-    ensures { λ _. ⌜ memoryOf (now (memory .exit)) ≡ withKept k [] (withRequests k [] (memoryOf (now (memory .entry)))) ⌝ }
+    ensures { λ _. ⌜ memoryOf (now (memory .exit)) ≡ keptPut k [] (requestsPut k [] (memoryOf (now (memory .entry)))) ⌝ }
 {
     requests::empty(memory, k);
     kept::drop_kept(memory, k);

@@ -13,8 +13,9 @@ fn scrambled(x: u32) -> u32 {
     (((x as u64) * 1664525 + 1013904223) % 4294967296) as u32
 }
 
-fn key_of(n: u32) -> [u8; 8] {
-    [(n % 256) as u8, 1, 2, 3, 4, 5, 6, 7]
+// The name of entry n: a key of 8 octets, and the originator.
+fn name_of(n: u32) -> [u8; 12] {
+    [(n % 256) as u8, 1, 2, 3, 4, 5, 6, 7, 10, 0, 0, 1]
 }
 
 // The row of entry n, 64 for none.
@@ -22,9 +23,8 @@ fn find(memory: &[u8], n: u32) -> u32
     requires { ⌜ length (now memory) ≡ memorySize ⌝ }
     ensures { λ r. ⌜ r < 65 ⌝ }
 {
-    let key = key_of(n);
-    let originator = [10u8, 0, 0, 1];
-    match memory::rows::find(memory, &key, &originator) {
+    let name = name_of(n);
+    match memory::rows::find(memory, &name) {
         Found::At(i) => (i % 64) as u32,
         Found::Nothing => 64,
     }
@@ -35,11 +35,10 @@ fn store(memory: &mut [u8], n: u32, number: u32) -> u32
     requires { ⌜ length (now memory) ≡ memorySize ⌝ }
     ensures { λ r. ⌜ r < 3 ⌝ }
 {
-    let key = key_of(n);
-    let originator = [10u8, 0, 0, 1];
+    let name = name_of(n);
     let payload = [9u8; 16];
     let csa = numbers::csa_of(number);
-    match memory::rows::find(memory, &key, &originator) {
+    match memory::rows::find(memory, &name) {
         Found::At(i) => {
             if 64 <= i {
                 return 0;
@@ -50,15 +49,7 @@ fn store(memory: &mut [u8], n: u32, number: u32) -> u32
             }
             0
         }
-        Found::Nothing => match memory::store::insert(
-            memory,
-            &key,
-            &originator,
-            csa,
-            &payload,
-            15,
-            255,
-        ) {
+        Found::Nothing => match memory::store::insert(memory, &name, csa, &payload, 15, 255) {
             Inserted::Stored => 1,
             Inserted::Full => 2,
         },
@@ -74,8 +65,8 @@ fn next(memory: &[u8], from: u32) -> u32
     ((p.count % 64 * 64 + p.next % 64) % 4096) as u32
 }
 
-// Turn i of the work, with x for chance.
-fn turn(memory: &mut [u8], kind: u8, rows: u32, i: u32, x: u32) -> u32
+// Step i of the work, with x for chance.
+fn step(memory: &mut [u8], kind: u8, rows: u32, i: u32, x: u32) -> u32
     requires { ⌜ length (now memory) ≡ memorySize ⌝ }
     requires { ⌜ 0 < rows ⌝ }
 {
@@ -113,13 +104,13 @@ fn work(memory: &mut [u8], kind: u8, rows: u32, count: u32) -> u32
     let mut i: u32 = 0;
     while i < count {
         x = scrambled(x);
-        sum = mixed(sum, turn(memory, kind, rows, i, x));
+        sum = mixed(sum, step(memory, kind, rows, i, x));
         i += 1;
     }
     sum
 }
 
-fn lent(memory: &mut [u8; 20992], kind: u8, rows: u32, count: u32) -> u32
+fn lent(memory: &mut [u8; 21504], kind: u8, rows: u32, count: u32) -> u32
     requires { ⌜ 0 < rows ⌝ }
 {
     work(memory, kind, rows, count)
@@ -132,7 +123,7 @@ fn main() {
     let kind = octets::octet(input, 0);
     let rows = octets::octet(input, 1);
     let count = octets::field4(input, 2);
-    let mut memory = [0u8; 20992];
+    let mut memory = [0u8; 21504];
     if rows > 0 {
         io::print_decimal(1, lent(&mut memory, kind, rows as u32, count) as u64);
         io::write_all(1, b"\n");

@@ -9,7 +9,7 @@ fn print(text: &[u8; 20480], n: usize) {
 // One input, its first record and one chunk behind it.
 fn replay(
     slots: &mut [usize; 192],
-    memory: &mut [u8; 20992],
+    memory: &mut [u8; 21504],
     input: &[u8],
     text: &mut [u8; 20480],
 ) {
@@ -34,7 +34,7 @@ fn read(space: &mut [u8], n: usize) -> usize {
 
 fn main() {
     let mut slots = [0usize; 192];
-    let mut memory = [0u8; 20992];
+    let mut memory = [0u8; 21504];
     let mut text = [0u8; 20480];
     let mut space = [0u8; SPACE];
     let mut head = [0u8; 4];

@@ -8,3 +8,4 @@ pub mod Puts
 pub mod Each
 pub mod Frames
 pub mod TableLaws
+pub mod Order

@@ -3,7 +3,7 @@
 use Prim.Native.Nat.{ℕ, suc}
 use mathlib.Core.Bool.{Bool, true, false, _&&_, _||_}
 use mathlib.Core.List.{List, [], _∷_, map}
-use lib.Dec.{eqb}
+use lib.Dec.{eqb, ltb}
 use Rattle.laws.specs.Choice.{pick}
 
 -- the function f, but b at k
@@ -45,6 +45,13 @@ same [] [] = true
 same [] (y ∷ ys) = false
 same (x ∷ xs) [] = false
 same (x ∷ xs) (y ∷ ys) = eqb x y && same xs ys
+
+-- the first is greater: the first octet that differs decides, and a list is greater than one that it begins with
+abbrev pub greater : List ℕ → List ℕ → Bool
+greater [] [] = false
+greater [] (y ∷ ys) = false
+greater (x ∷ xs) [] = true
+greater (x ∷ xs) (y ∷ ys) = pick (eqb x y) (greater xs ys) (ltb y x)
 
 -- the same cells in some order
 pub data Perm {A : Type 0} : List A → List A → Type 0 where

@@ -1,5 +1,8 @@
 // What no replay file shows, by the functions that a host calls: code 3, for an out buffer under 284 octets, and the missed count, which stops
 // at 65535. Prints a line for each code, and for the missed count as it nears its end.
+ghost use mathlib.Core.Path.{_≡_};
+ghost use Prim.Native.Nat.{_+_, _≤_};
+ghost use lib.ListN.{length};
 use protocol::CaFlags;
 use protocol::CaNumber;
 use protocol::CsaNumber;
@@ -9,9 +12,6 @@ use slots::state::Server;
 use slots::state::Settings;
 use writer::write;
 use writer::write::Common;
-use writer::write::CsaValue;
-use writer::write::Records;
-use writer::write::Written;
 
 fn print(n: u64) {
     io::print_decimal(1, n);
@@ -33,58 +33,63 @@ fn common() -> Common {
     }
 }
 
-fn size_of(w: Written) -> usize {
-    match w {
-        Written::Octets(n) => n,
-        Written::TooShort => 0,
-    }
-}
-
 fn packet_of(p: &[u8; 284], n: usize) -> &[u8] {
     octets::first(p, n)
 }
 
-// A summary of the entry with this number for a key.
-fn summary(n: u32) -> CsaValue {
-    let mut key = [0u8; 16];
-    key[0] = (n / 16777216 % 256) as u8;
-    key[1] = (n / 65536 % 256) as u8;
-    key[2] = (n / 256 % 256) as u8;
-    key[3] = (n % 256) as u8;
-    CsaValue {
-        hops: 1,
-        null: false,
-        number: CsaNumber(0),
-        key_len: 4,
-        payload_len: 0,
-        originator: [10, 0, 0, 9],
-        key,
-        payload: [0; 32],
-    }
+// A summary of the entry with this number for a key, at a position: the next one.
+fn put_summary(out: &mut [u8], at: usize, n: u32) -> usize
+    requires { ⌜ at + 64 ≤ length (now out) ⌝ }
+    ensures { λ r. ⌜ r ≡ at + 20 ⌝ }
+{
+    let name = [
+        (n / 16777216 % 256) as u8,
+        (n / 65536 % 256) as u8,
+        (n / 256 % 256) as u8,
+        (n % 256) as u8,
+        10,
+        0,
+        0,
+        9,
+    ];
+    let payload = octets::first(&name, 0);
+    write::put_record(out, at, 1, false, CsaNumber(0), &name, payload)
 }
 
-// The master's n-th CA: the first has M, I and O set and no records, each later one four summaries that no other has.
-fn write_ca(out: &mut [u8; 284], n: u32) -> usize {
-    let first = n == 0;
+// Four summaries, each of an entry that no other has, behind the head of a CA.
+fn put_summaries(out: &mut [u8], n: u32) -> usize
+    requires { ⌜ length (now out) ≡ 284 ⌝ }
+    ensures { λ r. ⌜ r ≡ 112 ⌝ }
+{
     let k = std::num::wrapping_add_u32(n, n);
     let m = std::num::wrapping_add_u32(k, k);
-    let count: usize = if first { 0 } else { 4 };
-    let list = [
-        summary(m),
-        summary(std::num::wrapping_add_u32(m, 1)),
-        summary(std::num::wrapping_add_u32(m, 2)),
-        summary(std::num::wrapping_add_u32(m, 3)),
-    ];
+    let a = put_summary(out, 32, m);
+    let b = put_summary(out, a, std::num::wrapping_add_u32(m, 1));
+    let c = put_summary(out, b, std::num::wrapping_add_u32(m, 2));
+    put_summary(out, c, std::num::wrapping_add_u32(m, 3))
+}
+
+// The master's n-th CA: the first has M, I and O set and no records, each later one four summaries.
+fn write_ca(out: &mut [u8], n: u32) -> usize
+    requires { ⌜ length (now out) ≡ 284 ⌝ }
+{
+    let first = n == 0;
     let flags = CaFlags {
         master: true,
         initial: first,
         more: true,
     };
-    size_of(write::write_ca(out, common(), CaNumber(n), flags, Records { count, list }))
+    if first {
+        write::finish_ca(out, common(), CaNumber(n), flags, 0, 32);
+        return 32;
+    }
+    let len = put_summaries(out, n);
+    write::finish_ca(out, common(), CaNumber(n), flags, 4, len);
+    len
 }
 
 // ---- the server's part
-fn start(slots: &mut [usize; 192], memory: &mut [u8; 20992]) -> Server {
+fn start(slots: &mut [usize; 192], memory: &mut [u8; 21504]) -> Server {
     let settings = Settings {
         id: [10, 0, 0, 2],
         protocol: 2,
@@ -102,11 +107,11 @@ fn start(slots: &mut [usize; 192], memory: &mut [u8; 20992]) -> Server {
 fn poll_and_hello(
     s: Server,
     slots: &mut [usize; 192],
-    memory: &mut [u8; 20992],
+    memory: &mut [u8; 21504],
     out: &mut [u8],
 ) -> Server {
     let mut hello = [0u8; 284];
-    let n = size_of(write::write_hello(&mut hello, common(), 10, 3, true));
+    let n = write::write_hello(&mut hello, common(), 10, 3, true);
     let a = events::poll(s, slots, memory, 0, 0, out);
     print_code(a);
     let b = events::packet(a.server, slots, memory, 0, 0, packet_of(&hello, n), out);
@@ -115,14 +120,14 @@ fn poll_and_hello(
 }
 
 // With 283 octets of room, then with 284.
-fn short_out(s: Server, slots: &mut [usize; 192], memory: &mut [u8; 20992]) -> Server {
+fn short_out(s: Server, slots: &mut [usize; 192], memory: &mut [u8; 21504]) -> Server {
     let mut less = [0u8; 283];
     let mut out = [0u8; 284];
     let t = poll_and_hello(s, slots, memory, &mut less);
     poll_and_hello(t, slots, memory, &mut out)
 }
 
-fn take_ca(s: Server, slots: &mut [usize; 192], memory: &mut [u8; 20992], n: u32) -> Server {
+fn take_ca(s: Server, slots: &mut [usize; 192], memory: &mut [u8; 21504], n: u32) -> Server {
     let mut out = [0u8; 284];
     let mut ca = [0u8; 284];
     let len = write_ca(&mut ca, n);
@@ -131,7 +136,7 @@ fn take_ca(s: Server, slots: &mut [usize; 192], memory: &mut [u8; 20992], n: u32
 }
 
 // 64 requests fill the list with 16 CAs; each CA behind them misses four more.
-fn missed(s: Server, slots: &mut [usize; 192], memory: &mut [u8; 20992]) {
+fn missed(s: Server, slots: &mut [usize; 192], memory: &mut [u8; 21504]) {
     let mut x = s;
     let mut n: u32 = 0;
     while n < 16403 {
@@ -149,7 +154,7 @@ fn missed(s: Server, slots: &mut [usize; 192], memory: &mut [u8; 20992]) {
 
 fn main() {
     let mut slots = [0usize; 192];
-    let mut memory = [0u8; 20992];
+    let mut memory = [0u8; 21504];
     let s = start(&mut slots, &mut memory);
     let t = short_out(s, &mut slots, &mut memory);
     missed(t, &mut slots, &mut memory);

@@ -39,7 +39,7 @@ pub struct Chunk {
 }
 
 // The line of an answer.
-fn put_answer(text: &mut [u8], at: usize, number: u64, a: Answer, memory: &[u8; 20992]) -> usize
+fn put_answer(text: &mut [u8], at: usize, number: u64, a: Answer, memory: &[u8; 21504]) -> usize
     requires { ⌜ at + 84 ≤ length (now text) ⌝ }
     ensures { λ r. ⌜ PutsNumbers (number ∷ codeNumber (a .outcome) ∷ a .written ∷ rowsUsed (rowsIn (now (memory .entry))) ∷ []) at (now (text .entry))
         (now (text .exit)) r ⌝ }
@@ -70,7 +70,7 @@ fn put_cut(text: &mut [u8], at: usize, wanted: bool) -> usize
 
 fn open_in(
     slots: &mut [usize; 192],
-    memory: &mut [u8; 20992],
+    memory: &mut [u8; 21504],
     input: &[u8],
     text: &mut [u8],
 ) -> Opened
@@ -91,7 +91,7 @@ fn open_in(
 // The first record and its line; `cut` where it is not accepted settings.
 pub fn open(
     slots: &mut [usize; 192],
-    memory: &mut [u8; 20992],
+    memory: &mut [u8; 21504],
     input: &[u8],
     text: &mut [u8; 20480],
 ) -> Opened
@@ -105,7 +105,7 @@ pub fn open(
 fn one(
     s: Server,
     slots: &mut [usize; 192],
-    memory: &mut [u8; 20992],
+    memory: &mut [u8; 21504],
     r: &[u8],
     out: &mut [u8; 284],
     number: u64,
@@ -149,7 +149,7 @@ fn ends_short(last: bool, len: usize, at: usize) -> bool
 fn replay_in(
     s: Server,
     slots: &mut [usize; 192],
-    memory: &mut [u8; 20992],
+    memory: &mut [u8; 21504],
     input: &[u8],
     last: bool,
     number: u64,
@@ -195,7 +195,7 @@ fn replay_in(
 pub fn replay(
     s: Server,
     slots: &mut [usize; 192],
-    memory: &mut [u8; 20992],
+    memory: &mut [u8; 21504],
     input: &[u8],
     last: bool,
     number: u64,

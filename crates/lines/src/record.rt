@@ -8,7 +8,6 @@ ghost use Rattle.laws.specs.Choice.{pick};
 ghost use Rattle.laws.specs.Lists as lists;
 ghost use Rattle.rules.specs.Replay as replay;
 ghost use Rattle.slots.specs.State.{settingsOf};
-use records::list;
 use slots::state::Settings;
 
 pub fn kind(r: &[u8]) -> u8
@@ -73,7 +72,7 @@ pub fn settings(r: &[u8]) -> Settings
     requires { ⌜ 12 ≤ length (now r) ⌝ }
     ensures { λ x. ⌜ settingsOf x ≡ replay.settingsIn (now (r .entry)) ⌝ }
 {
-    let own = list::array4(id(r));
+    let own = octets::array4(id(r));
     let protocol = octets::field2(r, 12);
     let group = octets::field2(r, 14);
     let interval = octets::field2(r, 16);

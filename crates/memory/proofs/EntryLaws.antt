@@ -2,8 +2,9 @@
 -- Assumes nothing.
 use Prim.Native.Nat.{ℕ, _-_, _<_}
 use mathlib.Core.Path.{_≡_, refl, sym, ap, _∙_, subst, fun-ext}
-use mathlib.Core.Bool.{Bool, false, not, false≢true}
+use mathlib.Core.Bool.{Bool, false, not}
 use mathlib.Core.List.{List, []}
+use native.Mathlib.Omega.{arith}
 use Rattle.laws.specs.Choice.{pick}
 use Rattle.laws.specs.Tables.{has, change}
 use Rattle.laws.proofs.Cells.{find-none}
@@ -25,7 +26,7 @@ use Rattle.memory.proofs.SearchLaws.{find-first}
 use Rattle.memory.proofs.RowPlaces.{row-case, usedRow}
 use Rattle.memory.proofs.MarkLaws.{as-changed}
 use Rattle.memory.proofs.RowInsert.{found-below, all-rows}
-use Rattle.memory.proofs.RowLaws.{found-first, has-found, change-found, has-none, change-none, found-row}
+use Rattle.memory.proofs.RowLaws.{found-first, has-found, change-found, has-none, change-none, not-found, found-row}
 
 -- ---- the entry's row changed
 module _ (e : Entry) (s : List ℕ) where
@@ -42,10 +43,6 @@ module _ (e : Entry) (s : List ℕ) where
     entry-held r p =
         entry-changed p
         ∙ ap (λ (b : Bool). withRows (pick b (change (holds e) f (rowsIn s)) (filled r (rowsIn s))) (memoryOf s)) (sym (has-found (holds e) (rowsIn s) i at))
-
-  -- it is not absent: where it is, every octet stays
-  pub found-kept : (i : ℕ) → firstFrom (holds e) 0 (rowsIn s) ≡ At i → (t : List ℕ) → has (holds e) (rowsIn s) ≡ false → t ≡ s
-  found-kept i at t h = absurd (false≢true (sym h ∙ has-found (holds e) (rowsIn s) i at))
 
   module _ (none : firstFrom (holds e) 0 (rowsIn s) ≡ Nothing) (f : Row → Row) where
     pub entry-absent : memoryOf s ≡ rowsAs (change (holds e) f) s
@@ -64,17 +61,28 @@ found-some p s Nothing e = tt
 pub found-index : (f : Found) (i : ℕ) → FoundBelow f → f ≡ At i → i < rowsMost
 found-index f i b e = subst FoundBelow e b
 
+-- it changes; where none was found, no octet does
+abbrev pub Changes : Found → (Row → Row) → List ℕ → List ℕ → Type 0
+Changes found f s t =
+    ((e : Entry) → found ≡ firstFrom (holds e) 0 (rowsIn s) → memoryOf t ≡ rowsAs (change (holds e) f) s) × (found ≡ Nothing → t ≡ s)
+
+not-nothing : (found : Found) (i : ℕ) → found ≡ At i → found ≡ Nothing → ⊥
+not-nothing found i a n = let z : _≡_ {A = ℕ} 0 1 = cc in absurd (omega arith)
+
 module _ (found : Found) (s : List ℕ) (f : Row → Row) where
-  pub found-marked : (i : ℕ) (t : List ℕ) → found ≡ At i → memoryOf t ≡ changedAt f i s
-      → (e : Entry) → found ≡ firstFrom (holds e) 0 (rowsIn s) → memoryOf t ≡ rowsAs (change (holds e) f) s
-  found-marked i t a m e g = entry-marked e s i (sym g ∙ a) f t m
+  pub found-marked : (i : ℕ) (t : List ℕ) → found ≡ At i → memoryOf t ≡ changedAt f i s → Changes found f s t
+  found-marked i t a m = (λ e g. entry-marked e s i (sym g ∙ a) f t m, λ n. absurd (not-nothing found i a n))
 
-  pub found-changed : (i : ℕ) (t : List ℕ) → found ≡ At i → memoryOf t ≡ withRow s i (f (rowIn s i))
-      → (e : Entry) → found ≡ firstFrom (holds e) 0 (rowsIn s) → memoryOf t ≡ rowsAs (change (holds e) f) s
-  found-changed i t a m e g = entry-changed e s i (sym g ∙ a) f t m
+  pub found-changed : (i : ℕ) (t : List ℕ) → found ≡ At i → memoryOf t ≡ withRow s i (f (rowIn s i)) → Changes found f s t
+  found-changed i t a m = (λ e g. entry-changed e s i (sym g ∙ a) f t m, λ n. absurd (not-nothing found i a n))
 
-  pub found-absent : found ≡ Nothing → (e : Entry) → found ≡ firstFrom (holds e) 0 (rowsIn s) → memoryOf s ≡ rowsAs (change (holds e) f) s
-  found-absent a e g = entry-absent e s (sym g ∙ a) f
+  pub found-absent : found ≡ Nothing → Changes found f s s
+  found-absent a = (λ e g. entry-absent e s (sym g ∙ a) f, λ n. refl)
+
+  -- the row of an entry that was looked for
+  pub entry-by : (e : Entry) (t : List ℕ) → found ≡ firstFrom (holds e) 0 (rowsIn s) → Changes found f s t
+      → (memoryOf t ≡ rowsAs (change (holds e) f) s) × (has (holds e) (rowsIn s) ≡ false → t ≡ s)
+  entry-by e t g c = (c .0 e g, λ h. c .1 (g ∙ not-found (holds e) (rowsIn s) h))
 
 -- ---- the rules' changes by a value and marks
 renewed-by : (live : ℕ → Bool) (k : ℕ) (r : CsaRecord) (x : Row) → revalued (valueOf r) (spread live k (r .hops - 1)) x ≡ renewed live k r x

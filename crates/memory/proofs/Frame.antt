@@ -1,6 +1,6 @@
 -- What a change of some octets does to what the memory means: nothing outside the row, list or kept CA that they are in.
 -- Assumes nothing.
-use Prim.Native.Nat.{ℕ, _+_, _-_, _*_, _≤_, _<_, min}
+use Prim.Native.Nat.{ℕ, _+_, _*_, _≤_, _<_, min}
 use mathlib.Core.Path.{_≡_, refl, ap, _∙_}
 use mathlib.Core.Bool.{Bool, true, false}
 use mathlib.Core.List.{List}
@@ -19,9 +19,9 @@ use Rattle.protocol.specs.Fields.{octet, field2, field4}
 use Rattle.protocol.specs.Numbers.{csaOf}
 use Rattle.protocol.specs.Sizes.{idLength, keyMost, packetMost}
 use Rattle.rules.specs.Server.{slotsMost, rowsMost, requestsMost, free, used}
-use Rattle.memory.specs.Layout.{numberPlace, originatorPlace, keyPlace, namePlace, rowSize, requestsAt, requestSize, listSize, keptSize, memorySize, rowPlace, lengthPlace, markPlace, topPlace, tagPlace, listPlace, requestPlace, keptPlace}
+use Rattle.memory.specs.Layout.{numberPlace, namePlace, rowSize, requestsAt, requestSize, listSize, keptSize, memorySize, rowPlace, lengthPlace, markPlace, topPlace, tagPlace, listPlace, requestTagPlace, requestPlace, keptPlace}
 use Rattle.memory.specs.Marks.{withMarks}
-use Rattle.memory.specs.Memory.{taggedEntry, isMarked, keyRoom, rowName, rowEntry, payloadLength, payloadPlace, valueAt, rowIn, rowsIn, entryAt, requestIn, requestsIn, keptIn, memoryOf, withRows, withRequests, withKept}
+use Rattle.memory.specs.Memory.{taggedEntry, isMarked, keyRoom, rowName, rowEntry, payloadLength, payloadPlace, valueAt, rowIn, rowsIn, roomName, requestIn, requestsIn, keptIn, memoryOf, withRows, requestsPut, keptPut}
 -- what holds of any list
 pub use Rattle.laws.proofs.Frames.{put-other, put-inside}
 pub use Rattle.laws.proofs.TableLaws.{table-same, table-set, table-get, table-length}
@@ -137,9 +137,6 @@ pub record OnlyRow (i : ℕ) (s t : List ℕ) : Type 0 where
 pub only-trans : {i : ℕ} {s t u : List ℕ} → OnlyRow i s t → OnlyRow i t u → OnlyRow i s u
 only-trans p q = record { size = q .size ∙ p .size; octets = λ j o. q .octets j o ∙ p .octets j o }
 
-pub only-refl : (i : ℕ) (s : List ℕ) → OnlyRow i s s
-only-refl i s = record { size = refl; octets = λ p o. refl }
-
 module _ (i : ℕ) (s : List ℕ) (x : ℕ) where
   only-set : (at : ℕ) → ((p : ℕ) → Outside i p → p ≡ at → ⊥) → OnlyRow i s (set s at x)
   only-set at h = record { size = length-set s at x; octets = λ p o. getD-set-other s at p x 0 (h p o) }
@@ -201,27 +198,27 @@ only-behind i h s t o =
     }
 
 -- ---- request lists and kept CAs
-asked-same : (s t : List ℕ) (at : ℕ) → Same at (at + requestSize) s t → entryAt s at ≡ entryAt t at
-asked-same s t at h =
-    let l = h .octets at (omega arith) (omega arith) in
-    let key = part-same at (at + requestSize) s t h (at + keyPlace) keyMost (omega arith) (omega arith) in
-    let originator = part-same at (at + requestSize) s t h (at + originatorPlace) idLength (omega arith) (omega arith) in
-    λ z. record { key = take (l z) (key z); originator = originator z }
+room-name-same : (s t : List ℕ) (at : ℕ) → Same at (at + requestSize) s t → roomName s at ≡ roomName t at
+room-name-same s t at h =
+    let n : min (octet s at) keyMost ≡ min (octet t at) keyMost = ap (λ (x : ℕ). min x keyMost) (h .octets at (omega arith) (omega arith)) in
+    part-same at (at + requestSize) s t h (at + namePlace) (min (octet s at) keyMost + idLength) (omega arith) (omega arith)
+    ∙ ap (λ (x : ℕ). part t (at + namePlace) (x + idLength)) n
 
-pub request-same : (s t : List ℕ) (k i : ℕ) → Same (requestPlace k i) (requestPlace k i + requestSize) s t → requestIn s k i ≡ requestIn t k i
+pub request-same : (s t : List ℕ) (k i : ℕ) → octet s (requestTagPlace k i) ≡ octet t (requestTagPlace k i)
+    → Same (requestPlace k i) (requestPlace k i + requestSize) s t → requestIn s k i ≡ requestIn t k i
 unfolding requestIn
-request-same s t k i h =
+request-same s t k i g h =
     let at : ℕ = requestPlace k i in
-    let entry = asked-same s t at h in
+    let name = room-name-same s t at h in
     let number = field4-same at (at + requestSize) s t h (at + numberPlace) (omega arith) (omega arith) in
-    λ z. record { entry = entry z; number = csaOf (number z) }
+    λ z. record { entry = taggedEntry (g z) (name z); number = csaOf (number z) }
 
 pub requests-same : (s t : List ℕ) (k : ℕ) → Same (listPlace k) (listPlace k + listSize) s t → requestsIn s k ≡ requestsIn t k
 unfolding requestsIn
 requests-same s t k h =
     let n = field2-same (listPlace k) (listPlace k + listSize) s t h (listPlace k) (omega arith) (omega arith) in
     let all = table-same (requestIn s k) (requestIn t k) requestsMost
-    (λ i g. request-same s t k i (same-within (requestPlace k i) (requestPlace k i + requestSize) (omega arith) (omega arith) h)) in
+    (λ i g. request-same s t k i (h .octets (requestTagPlace k i) (omega arith) (omega arith)) (same-within (requestPlace k i) (requestPlace k i + requestSize) (omega arith) (omega arith) h)) in
     λ z. take (n z) (all z)
 
 pub kept-same : (s t : List ℕ) (k : ℕ) → Same (keptPlace k) (keptPlace k + keptSize) s t → keptIn s k ≡ keptIn t k
@@ -267,7 +264,7 @@ only-row i s t h o = rows-changed s t (only-behind i h s t o) ∙ ap (λ rows. w
 
 -- one request list
 pub list-changed : (s t : List ℕ) (k : ℕ) → k < slotsMost → Same 0 (listPlace k) t s → Same (listPlace k + listSize) memorySize t s
-    → memoryOf t ≡ withRequests k (requestsIn t k) (memoryOf s)
+    → memoryOf t ≡ requestsPut k (requestsIn t k) (memoryOf s)
 unfolding memoryOf
 list-changed s t k h f g =
     let rows = rows-kept s t (same-within 0 requestsAt (omega arith) (omega arith) f) in
@@ -281,7 +278,7 @@ list-changed s t k h f g =
 
 -- one kept CA
 pub kept-changed : (s t : List ℕ) (k : ℕ) → k < slotsMost → Same 0 (keptPlace k) t s → Same (keptPlace k + keptSize) memorySize t s
-    → memoryOf t ≡ withKept k (keptIn t k) (memoryOf s)
+    → memoryOf t ≡ keptPut k (keptIn t k) (memoryOf s)
 unfolding memoryOf
 kept-changed s t k h f g =
     let rows = rows-kept s t (same-within 0 requestsAt (omega arith) (omega arith) f) in

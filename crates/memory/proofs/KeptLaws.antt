@@ -12,7 +12,7 @@ use Rattle.laws.proofs.Lists.{take-short}
 use Rattle.laws.proofs.Puts.{put-length, put-zero}
 use Rattle.protocol.specs.Fields.{field2, put2}
 use Rattle.memory.specs.Layout.{memorySize, keptSize, keptPlace}
-use Rattle.memory.specs.Memory.{keptIn, memoryOf, withKept}
+use Rattle.memory.specs.Memory.{keptIn, memoryOf, keptPut}
 use Rattle.memory.proofs.Frame.{put-before, put-behind, same-trans, field2-same, kept-changed}
 use Rattle.memory.proofs.Rooms.{part-put, size-put}
 
@@ -38,7 +38,7 @@ kept-short s k =
 
 -- ---- writing
 module _ (s : List ℕ) (k : ℕ) (slot : k < 8) (size : length s ≡ memorySize) where
-  forgotten : memoryOf (putAt s (keptPlace k) (put2 0 [])) ≡ withKept k [] (memoryOf s)
+  forgotten : memoryOf (putAt s (keptPlace k) (put2 0 [])) ≡ keptPut k [] (memoryOf s)
   unfolding keptIn
   forgotten =
       let at : ℕ = keptPlace k in
@@ -46,10 +46,10 @@ module _ (s : List ℕ) (k : ℕ) (slot : k < 8) (size : length s ≡ memorySize
       let t : List ℕ = putAt s at w in
       let fits : at + 2 ≤ length s = omega arith in
       kept-changed s t k slot (put-before s w at fits 0 at (omega arith)) (put-behind s w at fits (at + keptSize) memorySize (omega arith))
-      ∙ ap (λ (n : ℕ). withKept k (take n (part t (at + 2) 284)) (memoryOf s)) (size-put s at 0 fits)
+      ∙ ap (λ (n : ℕ). keptPut k (take n (part t (at + 2) 284)) (memoryOf s)) (size-put s at 0 fits)
 
   module _ (v : List ℕ) (short : length v ≤ 284) where
-    stored : memoryOf (putAt (putAt s (keptPlace k) (put2 (length v) [])) (keptPlace k + 2) v) ≡ withKept k v (memoryOf s)
+    stored : memoryOf (putAt (putAt s (keptPlace k) (put2 (length v) [])) (keptPlace k + 2) v) ≡ keptPut k v (memoryOf s)
     unfolding keptIn
     stored =
         let at : ℕ = keptPlace k in
@@ -66,19 +66,19 @@ module _ (s : List ℕ) (k : ℕ) (slot : k < 8) (size : length s ≡ memorySize
         ∙ take-take n 284 (drop (at + 2) u) short ∙ part-put t v (at + 2) n (omega arith) refl in
         kept-changed s u k slot (same-trans (put-before t v (at + 2) fits 0 at (omega arith)) (put-before s w at small 0 at (omega arith)))
         (same-trans (put-behind t v (at + 2) fits (at + keptSize) memorySize (omega arith)) (put-behind s w at small (at + keptSize) memorySize (omega arith)))
-        ∙ ap (λ (z : List ℕ). withKept k z (memoryOf s)) held
+        ∙ ap (λ (z : List ℕ). keptPut k z (memoryOf s)) held
 
 module _ (s : List ℕ) (k at : ℕ) (place : at ≡ keptPlace k) (slot : k < 8) (size : length s ≡ memorySize) where
-  pub kept-none : (t : List ℕ) → t ≡ putAt s at (put2 0 []) → memoryOf t ≡ withKept k [] (memoryOf s)
+  pub kept-none : (t : List ℕ) → t ≡ putAt s at (put2 0 []) → memoryOf t ≡ keptPut k [] (memoryOf s)
   kept-none t e = ap memoryOf (e ∙ ap (λ (z : ℕ). putAt s z (put2 0 [])) place) ∙ forgotten s k slot size
 
-  pub kept-put : (v t u : List ℕ) → length v ≤ 284 → t ≡ putAt s at (put2 (length v) []) → u ≡ putAt t (at + 2) v → memoryOf u ≡ withKept k v (memoryOf s)
+  pub kept-put : (v t u : List ℕ) → length v ≤ 284 → t ≡ putAt s at (put2 (length v) []) → u ≡ putAt t (at + 2) v → memoryOf u ≡ keptPut k v (memoryOf s)
   kept-put v t u short e f =
       ap memoryOf (f ∙ ap (λ (z : List ℕ). putAt z (at + 2) v) e ∙ ap (λ (z : ℕ). putAt (putAt s z (put2 (length v) [])) (z + 2) v) place)
       ∙ stored s k slot size v short
 
 -- ---- giving
-pub given : (out after p q : List ℕ) (n : ℕ) → p ≡ q → Put p 0 out after n → (n ≡ length q) × (after ≡ written q out)
-given out after p q n e h =
+pub kept-copied : (out after p q : List ℕ) (n : ℕ) → p ≡ q → Put p 0 out after n → (n ≡ length q) × (after ≡ written q out)
+kept-copied out after p q n e h =
     let a : n ≡ length p = let b : n ≡ 0 + length p = h .next in omega arith in
     (a ∙ ap length e, h .octets ∙ put-zero out p ∙ ap (λ (z : List ℕ). written z out) e)

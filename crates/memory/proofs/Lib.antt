@@ -9,6 +9,7 @@ pub mod Bits
 pub mod RowLoops
 pub mod MarkLaws
 pub mod RowPuts
+pub mod RowWhole
 pub mod RowSweep
 pub mod RowInsert
 pub mod RowLaws
@@ -20,7 +21,8 @@ pub mod Rooms
 pub mod RoomReads
 pub mod RequestLists
 pub mod RequestSteps
-pub mod RequestMoves
+pub mod RequestRemovals
+pub mod Rotations
 pub mod KeptLaws
 pub mod RequestLaws
 pub mod RequestRounds

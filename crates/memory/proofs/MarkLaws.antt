@@ -2,7 +2,7 @@
 -- Assumes nothing.
 use Prim.Native.Nat.{ℕ, _+_, _≤_, _<_}
 use mathlib.Core.Path.{_≡_, refl, sym, ap, _∙_, subst}
-use mathlib.Core.Bool.{Bool, true, false, _||_}
+use mathlib.Core.Bool.{Bool, true, false, _||_, false≢true}
 use mathlib.Core.List.{List, _∷_}
 use native.Mathlib.Omega.{arith}
 use lib.Bits.{bitOr}
@@ -138,3 +138,11 @@ module _ (s : List ℕ) (i : ℕ) (h : i < rowsMost) where
 
     pub replied-same : newer number held ≡ false → newer held number ≡ false → unmarked k (rowAt (rowsIn s) i) ≡ replied k number (rowAt (rowsIn s) i)
     replied-same f g = at-case s i h (λ r. unmarked k r ≡ replied k number r) refl (rw (ap (newer number) (sym e) ∙ f, ap (λ (x : CsaNumber). newer x number) (sym e) ∙ g))
+
+    -- so the numbers do not differ
+    pub not-differing : newer number held ≡ false → newer held number ≡ false
+        → (newer number (valueAt s i .number) || newer (valueAt s i .number) number) ≡ true → ⊥
+    not-differing f g t =
+        let a : newer number (valueAt s i .number) ≡ false = ap (newer number) (sym e) ∙ f in
+        let b : newer (valueAt s i .number) number ≡ false = ap (λ (x : CsaNumber). newer x number) (sym e) ∙ g in
+        absurd (false≢true (sym (λ z. a z || b z) ∙ t))

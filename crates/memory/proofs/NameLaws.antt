@@ -8,7 +8,7 @@ use native.Mathlib.Omega.{arith}
 use lib.Dec.{eqb}
 use lib.ListN.{length, take, drop, take-append-drop, length-append, length-drop}
 use lib.Seq.{length-take-le, take-append-seam, drop-append-seam}
-use borrow.Author.Tests.{eqb-true, eq-eqb}
+use borrow.Author.Tests.{eqb-true, eq-eqb, ne-eqb}
 use Rattle.laws.specs.Choice.{pick}
 use Rattle.laws.specs.Puts.{putAt}
 use Rattle.laws.specs.Tables.{same}
@@ -52,6 +52,28 @@ module _ (tag : ℕ) (m name : List ℕ) (h : 4 ≤ length m) (g : 4 < length na
 
   pub tagged-is : sameEntry (taggedEntry tag m) (entryNamed name) ≡ (eqb tag (tagOf name) && same m name)
   tagged-is = tagged-by (eqb tag (tagOf m)) (eqb tag (tagOf name)) (same m name) refl refl refl
+
+-- ---- the entry of a tag and a name
+module _ (name : List ℕ) where
+  abbrev picked : Bool → Entry
+  picked b = pick b (entryNamed name) (withoutKey (entryNamed name))
+
+  originator-by : (b : Bool) → picked b .originator ≡ drop (length name - idLength) name
+  originator-by true = refl
+  originator-by false = refl
+
+  module _ (tag : ℕ) where
+    pub tagged-originator : taggedEntry tag name .originator ≡ drop (length name - idLength) name
+    tagged-originator = originator-by (eqb tag (tagOf name))
+
+    -- its name: the whole, or the originator alone
+    pub tagged-whole : tag ≡ tagOf name → name ≡ taggedEntry tag name .key ++ taggedEntry tag name .originator
+    tagged-whole e =
+        sym (take-append-drop (length name - idLength) name)
+        ∙ ap (λ (b : Bool). picked b .key ++ picked b .originator) (sym (eq-eqb tag (tagOf name) e))
+
+    pub tagged-end : (tag ≡ tagOf name → ⊥) → drop (length name - idLength) name ≡ taggedEntry tag name .key ++ taggedEntry tag name .originator
+    tagged-end n = ap (λ (b : Bool). picked b .key ++ picked b .originator) (sym (ne-eqb tag (tagOf name) n))
 
 -- a name made of a key and an originator
 pub named-entry : (key originator name : List ℕ) → length originator ≡ idLength → name ≡ key ++ originator → entryNamed name ≡ record { key = key; originator = originator }

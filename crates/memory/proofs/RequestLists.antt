@@ -1,37 +1,62 @@
--- The loops over a request list: the first for an entry, those that go, the first one to the end.
+-- The loops over a request list: the first for an entry, and those that go.
 -- Assumes nothing.
-use Prim.Native.Nat.{ℕ, zero, suc, _+_, _-_, _≤_, _<_, min}
+use Prim.Native.Nat.{ℕ, zero, suc, _+_, _≤_, _<_}
 use mathlib.Core.Path.{_≡_, refl, sym, ap, _∙_}
 use mathlib.Core.Bool.{Bool, true, false, _||_}
-use mathlib.Core.List.{List, [], _∷_, _++_, append-nil, append-assoc}
+use mathlib.Core.List.{List, [], _∷_, _++_, append-nil}
+use native.Mathlib.Decide.{ℕ-discrete}
 use native.Mathlib.Numerals.{add-one}
 use native.Mathlib.Nat.{add-zero}
-use native.Mathlib.Omega.{arith, min-cases}
-use lib.ListN.{length, take, drop, getD, set, length-set, drop-of-length-le}
-use lib.Seq.{take-all, take-length, drop-length, drop-drop, take-suc, drop-cons, take-suc-set, drop-set-lt, getD-drop}
+use native.Mathlib.Omega.{arith}
+use lib.ListN.{length, take, drop, getD, set, length-set}
+use lib.Seq.{drop-drop, take-suc, take-suc-set, drop-set-lt, getD-drop}
 use Rattle.laws.specs.Choice.{pick}
 use Rattle.laws.specs.Tables.{has, change, without}
 use Rattle.memory.specs.Lists.{placeOf}
 
 -- ---- the first that passes
 module _ {A : Type 0} (p : A → Bool) (d : A) where
-  pub place-none : (l : List A) → placeOf p l ≡ 0 + placeOf p (drop 0 l)
-  place-none l = omega arith
+  -- none of the first i passes
+  abbrev pub Passed : List A → ℕ → Type 0
+  Passed l i = (j : ℕ) → j < i → j < length l → p (getD l j d) ≡ false
 
-  pub place-hit : (l : List A) (i : ℕ) → i < length l → p (getD l i d) ≡ true → placeOf p l ≡ i + placeOf p (drop i l) → placeOf p l ≡ i
-  place-hit l i h e f =
-      let z : placeOf p (drop i l) ≡ 0 = rw (drop-cons l i d h, e) in
-      omega arith
+  passed-by : (l : List A) (i j : ℕ) → Passed l i → p (getD l i d) ≡ false → j < i + 1 → j < length l → Dec (j ≡ i) → p (getD l j d) ≡ false
+  passed-by l i j h e g n (yes y) = ap (λ (m : ℕ). p (getD l m d)) y ∙ e
+  passed-by l i j h e g n (no y) = h j (omega (arith, y)) n
 
-  pub place-miss : (l : List A) (i : ℕ) → i < length l → p (getD l i d) ≡ false → placeOf p l ≡ i + placeOf p (drop i l) → placeOf p l ≡ i + 1 + placeOf p (drop (i + 1) l)
-  place-miss l i h e f =
-      let z : placeOf p (drop i l) ≡ suc (placeOf p (drop (i + 1) l)) = rw (add-one, drop-cons l i d h, e) in
-      omega arith
+  pub passed-more : (l : List A) (i : ℕ) → Passed l i → p (getD l i d) ≡ false → Passed l (i + 1)
+  passed-more l i h e j g n = passed-by l i j h e g n (ℕ-discrete j i)
 
-  pub place-end : (l : List A) (i : ℕ) → length l ≤ i → i ≤ length l → placeOf p l ≡ i + placeOf p (drop i l) → length l ≡ placeOf p l
-  place-end l i h g f =
-      let z : placeOf p (drop i l) ≡ 0 = ap (placeOf p) (drop-of-length-le l h) in
-      omega arith
+  later : (x : A) (l : List A) (i : ℕ) → Passed (x ∷ l) (suc i) → Passed l i
+  later x l i h j g n = h (suc j) (omega arith) (omega arith)
+
+  pub place-hit : (l : List A) (i : ℕ) → i < length l → Passed l i → p (getD l i d) ≡ true → placeOf p l ≡ i
+  place-hit [] i h q e = absurd (omega arith)
+  place-hit (x ∷ l) zero h q e = rw e
+  place-hit (x ∷ l) (suc i) h q e = rw (q 0 (omega arith) (omega arith)) (ap suc (place-hit l i (omega arith) (later x l i q) e))
+
+  pub place-end : (l : List A) (i : ℕ) → length l ≤ i → Passed l i → placeOf p l ≡ length l
+  place-end [] i h q = refl
+  place-end (x ∷ l) zero h q = absurd (omega arith)
+  place-end (x ∷ l) (suc i) h q = rw (q 0 (omega arith) (omega arith)) (ap suc (place-end l i (omega arith) (later x l i q)))
+
+  -- none before the place passes
+  before-by : (x : A) (l : List A) (b : Bool) → p x ≡ b → Passed l (placeOf p l) → Passed (x ∷ l) (pick b 0 (suc (placeOf p l)))
+  before-by x l true e q j g n = absurd (omega arith)
+  before-by x l false e q zero g n = e
+  before-by x l false e q (suc j) g n = q j (omega arith) (omega arith)
+
+  pub place-passed : (l : List A) → Passed l (placeOf p l)
+  place-passed [] = λ j g n. absurd (omega arith)
+  place-passed (x ∷ l) = before-by x l (p x) refl (place-passed l)
+
+  place-by : (l : List A) (b : Bool) → placeOf p l ≤ length l → pick b 0 (suc (placeOf p l)) ≤ suc (length l)
+  place-by l true h = omega arith
+  place-by l false h = omega arith
+
+  pub place-within : (l : List A) → placeOf p l ≤ length l
+  place-within [] = omega arith
+  place-within (x ∷ l) = place-by l (p x) (place-within l)
 
   -- what is known where there is one, and where there is none
   pub record Placed (l : List A) : Type 0 where
@@ -58,14 +83,19 @@ module _ {A : Type 0} (p : A → Bool) (d : A) where
   nowhere (x ∷ l) h = nowhere-by x l (nowhere l) (p x) h
 
   -- ---- those that go: of the first i of l those that stay are the first w of r, and the others stand as they were
-  pub record Sifted (l r : List A) (i w : ℕ) : Type 0 where
+  pub record Removed (l r : List A) (i w : ℕ) : Type 0 where
     pub under : w ≤ i
     pub size : length r ≡ length l
     pub front : take w r ≡ without p (take i l)
     pub back : drop i r ≡ drop i l
 
-  pub sifted-none : (l : List A) → Sifted l l 0 0
-  sifted-none l = record { under = omega arith; size = refl; front = refl; back = refl }
+  pub all-stay : (l : List A) (i : ℕ) → Passed l i → without p (take i l) ≡ take i l
+  all-stay l zero h = refl
+  all-stay [] (suc i) h = refl
+  all-stay (x ∷ l) (suc i) h = rw (h 0 (omega arith) (omega arith)) (ap (λ (z : List A). x ∷ z) (all-stay l i (later x l i h)))
+
+  pub removed-none : (l : List A) (i : ℕ) → Passed l i → Removed l l i i
+  removed-none l i h = record { under = omega arith; size = refl; front = sym (all-stay l i h); back = refl }
 
   append-by : (y : A) (a b : List A) → without p (a ++ b) ≡ without p a ++ without p b → (c : Bool)
       → pick c (without p (a ++ b)) (y ∷ without p (a ++ b)) ≡ pick c (without p a) (y ∷ without p a) ++ without p b
@@ -76,7 +106,7 @@ module _ {A : Type 0} (p : A → Bool) (d : A) where
   without-append [] b = refl
   without-append (y ∷ a) b = append-by y a b (without-append a b) (p y)
 
-  module _ (l r : List A) (i w : ℕ) (more : i < length l) (so : Sifted l r i w) where
+  module _ (l r : List A) (i w : ℕ) (more : i < length l) (so : Removed l r i w) where
     cell-at : (z : List A) → getD z i d ≡ getD (drop i z) 0 d
     cell-at z = ap (λ (n : ℕ). getD z n d) (sym (add-zero i)) ∙ sym (getD-drop i z 0 d)
 
@@ -90,8 +120,8 @@ module _ {A : Type 0} (p : A → Bool) (d : A) where
     one-more = ap (without p) (take-suc l i d more) ∙ without-append (take i l) (getD l i d ∷ [])
         ∙ ap (λ (y : A). without p (take i l) ++ without p (y ∷ [])) (sym same-cell)
 
-    sifted-by : (b : Bool) → p (getD r i d) ≡ b → Sifted l (pick b r (set r w (getD r i d))) (suc i) (pick b w (suc w))
-    sifted-by true e =
+    removed-by : (b : Bool) → p (getD r i d) ≡ b → Removed l (pick b r (set r w (getD r i d))) (suc i) (pick b w (suc w))
+    removed-by true e =
         let under = so .under in
         let gone : without p (getD r i d ∷ []) ≡ [] = rw e in
         record {
@@ -100,7 +130,7 @@ module _ {A : Type 0} (p : A → Bool) (d : A) where
           front = so .front ∙ sym (one-more ∙ ap (λ (z : List A). without p (take i l) ++ z) gone ∙ append-nil (without p (take i l)));
           back = rest;
         }
-    sifted-by false e =
+    removed-by false e =
         let under = so .under in
         let size = so .size in
         let stays : without p (getD r i d ∷ []) ≡ getD r i d ∷ [] = rw e in
@@ -113,53 +143,5 @@ module _ {A : Type 0} (p : A → Bool) (d : A) where
           back = drop-set-lt (suc i) r w (getD r i d) (omega arith) ∙ rest;
         }
 
-    pub sifted-more : Sifted l (pick (p (getD r i d)) r (set r w (getD r i d))) (suc i) (pick (p (getD r i d)) w (suc w))
-    sifted-more = sifted-by (p (getD r i d)) refl
-
--- ---- the first one to the end
-module _ {A : Type 0} (d : A) where
-  moved-by : (y : A) (m : List A) (i : ℕ) → i < length m
-      → set (take i m ++ drop i (y ∷ m)) i (getD (take i m ++ drop i (y ∷ m)) (suc i) d) ≡ take (suc i) m ++ drop (suc i) (y ∷ m)
-  moved-by y [] i h = absurd (omega arith)
-  moved-by y (z ∷ m) zero h = refl
-  moved-by y (z ∷ m) (suc i) h = ap (λ (t : List A). z ∷ t) (moved-by z m i (omega arith))
-
-  pub moved-more : (l : List A) (i : ℕ) → suc i < length l
-      → set (take i (drop 1 l) ++ drop i l) i (getD (take i (drop 1 l) ++ drop i l) (suc i) d) ≡ take (suc i) (drop 1 l) ++ drop (suc i) l
-  moved-more [] i h = absurd (omega arith)
-  moved-more (y ∷ m) i h = moved-by y m i (omega arith)
-
-  set-by : (x y : A) (m : List A) (n : ℕ) → n < suc (length m) → set (take n m ++ drop n (y ∷ m)) n x ≡ take n m ++ (x ∷ drop n m)
-  set-by x y m zero h = refl
-  set-by x y [] (suc n) h = absurd (omega arith)
-  set-by x y (z ∷ m) (suc n) h = ap (λ (t : List A). z ∷ t) (set-by x z m n (omega arith))
-
-  pub turned-set : (l : List A) (last : ℕ) (x : A) → last < length l
-      → set (take last (drop 1 l) ++ drop last l) last x ≡ take last (drop 1 l) ++ (x ∷ drop (suc last) l)
-  turned-set [] last x h = absurd (omega arith)
-  turned-set (y ∷ m) last x h = set-by x y m last h
-
-  take-by : (y : A) (m : List A) (n : ℕ) → n ≤ length m → take (suc n) (take n m ++ (y ∷ drop n m)) ≡ take n m ++ (y ∷ [])
-  take-by y m zero h = refl
-  take-by y [] (suc n) h = absurd (omega arith)
-  take-by y (z ∷ m) (suc n) h = ap (λ (t : List A). z ∷ t) (take-by y m n (omega arith))
-
-  -- as the list of those in use
-  pub turned-take : (l : List A) (last : ℕ) → last < length l
-      → take (suc last) (take last (drop 1 l) ++ (getD l 0 d ∷ drop (suc last) l)) ≡ drop 1 (take (suc last) l) ++ take 1 (take (suc last) l)
-  turned-take [] last h = absurd (omega arith)
-  turned-take (y ∷ m) last h = take-by y m last (omega arith)
-
-  pub turn-more : (l : List A) (i : ℕ) → i < length l
-      → drop 1 (drop i l ++ take i l) ++ take 1 (drop i l ++ take i l) ≡ drop (suc i) l ++ take (suc i) l
-  turn-more l i h =
-      ap (λ (z : List A). drop 1 (z ++ take i l) ++ take 1 (z ++ take i l)) (drop-cons l i d h)
-      ∙ append-assoc (drop (suc i) l) (take i l) (getD l i d ∷ []) ∙ ap (λ (z : List A). drop (suc i) l ++ z) (sym (take-suc l i d h))
-
-module _ {A : Type 0} where
-  pub turn-end : (l : List A) (i : ℕ) → i ≡ min 4 (length l) → drop i l ++ take i l ≡ drop 4 l ++ take 4 l
-  turn-end l i e =
-      min-cases 4 (length l) (drop i l ++ take i l ≡ drop 4 l ++ take 4 l) (λ h f. ap (λ (n : ℕ). drop n l ++ take n l) (e ∙ f))
-      (λ h f.
-      ap (λ (n : ℕ). drop n l ++ take n l) (e ∙ f) ∙ (λ j. drop-length l j ++ take-length l j)
-      ∙ (λ j. sym (drop-of-length-le l h) j ++ sym (take-all 4 l h) j))
+    pub removed-more : Removed l (pick (p (getD r i d)) r (set r w (getD r i d))) (suc i) (pick (p (getD r i d)) w (suc w))
+    removed-more = removed-by (p (getD r i d)) refl

@@ -1,13 +1,13 @@
 -- What the functions on a request list leave, from what those that they call leave.
 -- Assumes nothing.
-use Prim.Native.Nat.{ℕ, suc, _+_, _-_, _≤_, _<_, min}
+use Prim.Native.Nat.{ℕ, suc, _+_, _≤_, _<_, min}
 use mathlib.Core.Path.{_≡_, refl, sym, ap, _∙_, subst, fun-ext}
 use mathlib.Core.Bool.{Bool, true, false, not, _&&_, false≢true}
 use mathlib.Core.List.{List, [], _∷_, _++_}
 use native.Mathlib.Numerals.{add-one}
 use native.Mathlib.Omega.{arith}
 use lib.Dec.{ltb}
-use lib.ListN.{length, take, drop, getD, set, length-take}
+use lib.ListN.{length, take, getD, set, length-take}
 use lib.Seq.{getD-take, take-set-lt, take-suc-set}
 use borrow.Author.Tests.{lt-ltb, le-ltb}
 use Rattle.laws.specs.Choice.{pick}
@@ -15,16 +15,17 @@ use Rattle.laws.specs.Tables.{has, change, without}
 use Rattle.laws.proofs.Lists.{take-taken}
 use Rattle.laws.proofs.Tables.{room}
 use Rattle.protocol.specs.declared.CsaNumber.{CsaNumber}
-use Rattle.protocol.specs.Fields.{field2}
+use Rattle.protocol.specs.Fields.{octet, field2}
 use Rattle.protocol.specs.Numbers.{newer}
 use Rattle.rules.specs.Server.{Entry, Request}
 use Rattle.rules.specs.Requests.{asks, raised, join, Wanted, dropped}
-use Rattle.memory.specs.Layout.{listPlace}
-use Rattle.memory.specs.Memory.{requestIn, requestsIn, Memory, memoryOf, withRequests, requestsOf}
+use Rattle.memory.specs.Layout.{requestSize, memorySize, listPlace, requestTagPlace, requestPlace}
+use Rattle.memory.specs.Memory.{entryNamed, tagOf, requestIn, requestsIn, Memory, memoryOf, requestsPut, requestsOf}
+use Rattle.memory.specs.Search.{FirstOctet}
 use Rattle.memory.specs.Lists.{roomsIn, noRequest, Listed, placeOf, goes, Joins}
 use Rattle.memory.proofs.Rooms.{rooms-length, rooms-get, requests-in, requests-of, listed-none, listed-then, listed-requests}
-use Rattle.memory.proofs.RoomReads.{room-is, raised-newer, raised-not}
-use Rattle.memory.proofs.RequestLists.{place-hit, place-miss, placed, nowhere}
+use Rattle.memory.proofs.RoomReads.{room-is, asks-other, raised-newer, raised-not}
+use Rattle.memory.proofs.RequestLists.{Passed, passed-more, place-hit, place-end, placed, nowhere}
 
 -- ---- one change after another
 module _ {k n : ℕ} {l : List Request} {s t : List ℕ} (p : Listed k n l s t) where
@@ -64,17 +65,31 @@ module _ (s : List ℕ) (k : ℕ) where
       take-set-lt (field2 s (listPlace k)) (roomsIn s k) i x (few i h) ∙ ap (λ (z : List Request). set z i x) (sym (requests-in s k))
 
 -- ---- the first for an entry
-module _ (s : List ℕ) (k n i : ℕ) (e : Entry) (a : Bool) (long : n ≡ length (requestsIn s k))
-    (so : placeOf (asks e) (requestsIn s k) ≡ i + placeOf (asks e) (drop i (requestsIn s k))) where
-  tested : i < n → a ≡ asks e (getD (roomsIn s k) i noRequest) → asks e (getD (requestsIn s k) i noRequest) ≡ a
-  tested h f = ap (asks e) (list-get s k i (omega arith)) ∙ sym f
+module _ (s : List ℕ) (k n i : ℕ) (name : List ℕ) (long : n ≡ length (requestsIn s k)) where
+  -- the first i of the list are not for it
+  abbrev pub Looked : Type 0
+  Looked = Passed (asks (entryNamed name)) noRequest (requestsIn s k) i
 
-  pub find-hit : i < n → a ≡ asks e (getD (roomsIn s k) i noRequest) → a ≡ true → i ≡ placeOf (asks e) (requestsIn s k)
-  find-hit h f g = sym (place-hit (asks e) noRequest (requestsIn s k) i (omega arith) (tested h f ∙ g) so)
+  pub find-from : (t at : ℕ) → k < 8 → length s ≡ memorySize → 4 < length name → t ≡ tagOf name → n ≤ 64 → at ≡ requestTagPlace k 0 → FirstOctet s at t i → Looked
+  find-from t at slot size four own most place f j g h =
+      let p : requestPlace k j + requestSize ≤ length s = omega arith in
+      let q : at + j ≡ requestTagPlace k j = omega arith in
+      ap (asks (entryNamed name)) (list-get s k j h)
+      ∙ asks-other s k j (requestPlace k j) refl name t (omega arith) p four own
+      (λ e. let l = f .none-before j (omega arith) (ap (octet s) q ∙ e) in omega arith)
 
-  pub find-miss : i < n → a ≡ asks e (getD (roomsIn s k) i noRequest) → a ≡ false
-      → placeOf (asks e) (requestsIn s k) ≡ i + 1 + placeOf (asks e) (drop (i + 1) (requestsIn s k))
-  find-miss h f g = place-miss (asks e) noRequest (requestsIn s k) i (omega arith) (tested h f ∙ g) so
+  module _ (a : Bool) (so : Looked) (h : i < n) (f : a ≡ asks (entryNamed name) (getD (roomsIn s k) i noRequest)) where
+    tested : asks (entryNamed name) (getD (requestsIn s k) i noRequest) ≡ a
+    tested = ap (asks (entryNamed name)) (list-get s k i (omega arith)) ∙ sym f
+
+    pub find-hit : a ≡ true → i ≡ placeOf (asks (entryNamed name)) (requestsIn s k)
+    find-hit g = sym (place-hit (asks (entryNamed name)) noRequest (requestsIn s k) i (omega arith) so (tested ∙ g))
+
+    pub find-miss : a ≡ false → Passed (asks (entryNamed name)) noRequest (requestsIn s k) (i + 1)
+    find-miss g = passed-more (asks (entryNamed name)) noRequest (requestsIn s k) i so (tested ∙ g)
+
+  pub find-end : Looked → n ≤ i → n ≡ placeOf (asks (entryNamed name)) (requestsIn s k)
+  find-end so h = long ∙ sym (place-end (asks (entryNamed name)) noRequest (requestsIn s k) i (omega arith) so)
 
 -- ---- a number raised
 module _ (s t : List ℕ) (k i : ℕ) (e : Entry) (n m : CsaNumber) (r : Bool) (room : i < 64) (is : m ≡ requestIn s k i .number) where
@@ -110,9 +125,9 @@ and-all true = refl
 and-all false = refl
 
 -- all go, whatever the number
-pub goes-dropped : (k : ℕ) (e : Entry) (n : CsaNumber) (m m′ : Memory) → m′ ≡ withRequests k (without (goes true e n) (requestsOf m k)) m
-    → m′ ≡ withRequests k (dropped e (requestsOf m k)) m
-goes-dropped k e n m m′ h = h ∙ ap (λ (p : Request → Bool). withRequests k (without p (requestsOf m k)) m) (fun-ext (λ q. and-all (asks e q)))
+pub goes-dropped : (k : ℕ) (e : Entry) (n : CsaNumber) (m m′ : Memory) → m′ ≡ requestsPut k (without (goes true e n) (requestsOf m k)) m
+    → m′ ≡ requestsPut k (dropped e (requestsOf m k)) m
+goes-dropped k e n m m′ h = h ∙ ap (λ (p : Request → Bool). requestsPut k (without p (requestsOf m k)) m) (fun-ext (λ q. and-all (asks e q)))
 
 pub goes-none : (e : Entry) (n : CsaNumber) (l : List Request) → has (asks e) l ≡ false → has (goes true e n) l ≡ false
 goes-none e n l h = ap (λ (p : Request → Bool). has p l) (fun-ext (λ q. and-all (asks e q))) ∙ h
@@ -142,14 +157,14 @@ module _ (s : List ℕ) (k : ℕ) (slot : k < 8) (e : Entry) (n : CsaNumber) (mi
       ∙ placed (asks e) noRequest (requestsIn s k) (there h) .passes
 
   -- what it comes to, of the list that the rules speak of
-  joined : (t : List ℕ) (l : List Request) (r : ℕ) → requestsIn t k ≡ l → memoryOf t ≡ withRequests k (requestsIn t k) (memoryOf s)
+  joined : (t : List ℕ) (l : List Request) (r : ℕ) → requestsIn t k ≡ l → memoryOf t ≡ requestsPut k (requestsIn t k) (memoryOf s)
       → join e n (record { requests = requestsIn s k; missed = missed }) ≡ record { requests = l; missed = r }
       → (has (asks e) (requestsIn s k) ≡ false → ltb (length (requestsIn s k)) 64 ≡ false → t ≡ s) → Joins k e n missed s t r
   joined t l r a b c d =
       let f : join e n (record { requests = requestsOf (memoryOf s) k; missed = missed }) ≡ record { requests = l; missed = r } =
       ap (λ (z : List Request). join e n (record { requests = z; missed = missed })) (requests-of s k slot) ∙ c in
       record {
-        list = b ∙ ap (λ (z : List Request). withRequests k z (memoryOf s)) (a ∙ sym (ap (λ (w : Wanted). w .requests) f));
+        list = b ∙ ap (λ (z : List Request). requestsPut k z (memoryOf s)) (a ∙ sym (ap (λ (w : Wanted). w .requests) f));
         count = sym (ap (λ (w : Wanted). w .missed) f);
         kept = λ none most. d (ap (has (asks e)) (sym (requests-of s k slot)) ∙ none) (ap (λ (z : List Request). ltb (length z) 64) (sym (requests-of s k slot)) ∙ most);
       }

@@ -1,22 +1,25 @@
 -- The rooms of a request list: what octets put there hold, what stays, and what the whole memory means then.
 -- Assumes nothing.
-use Prim.Native.Nat.{ℕ, zero, suc, _+_, _*_, _-_, _/_, _%_, _≤_, _<_}
+use Prim.Native.Nat.{ℕ, zero, suc, _+_, _*_, _-_, _/_, _%_, _≤_, _<_, min}
 use mathlib.Core.Path.{_≡_, refl, sym, ap, _∙_}
 use mathlib.Core.List.{List, [], _∷_, _++_}
+use mathlib.Core.Logic.{inl, inr}
 use native.Mathlib.Nat.{add-zero, div-add-mod'}
 use native.Mathlib.Omega.{arith, ne-cases}
 use lib.ListN.{length, take, drop, getD, set, length-drop}
-use lib.Seq.{take-nil, getD-take, getD-drop, take-take, drop-drop, take-at, drop-at, length-take-le, set-set}
+use lib.Seq.{take-nil, getD-take, getD-drop, take-take, drop-drop, take-at, drop-at, length-take-le, set-set, getD-set-same, getD-set-other}
 use Rattle.laws.specs.Lists.{part}
 use Rattle.laws.specs.Puts.{putAt}
-use Rattle.laws.proofs.Lists.{take-short}
+use Rattle.laws.proofs.Lists.{part-length}
+use Rattle.laws.proofs.Puts.{put-length}
 use Rattle.protocol.specs.Fields.{octet, field2, put2}
 use Rattle.protocol.specs.Numbers.{csaOf}
 use Rattle.rules.specs.Server.{slotsMost, requestsMost, Request}
-use Rattle.memory.specs.Layout.{requestSize, listSize, memorySize, listPlace, requestPlace}
-use Rattle.memory.specs.Memory.{entryAt, requestIn, requestsIn, memoryOf, withRequests, requestsOf}
+use Rattle.memory.specs.Layout.{requestSize, listSize, memorySize, listPlace, requestTagPlace, requestPlace}
+use Rattle.memory.specs.Memory.{taggedEntry, roomName, requestIn, requestsIn, memoryOf, requestsPut, requestsOf}
 use Rattle.memory.specs.Lists.{requestOf, roomsIn, noRequest, Listed}
-use Rattle.memory.proofs.Frame.{put-inside, put-before, put-behind, same-refl, field2-same, table-same, table-set, table-get, table-length, request-same, list-changed}
+use Rattle.memory.proofs.NameLaws.{tagged-originator}
+use Rattle.memory.proofs.Frame.{Same, same-trans, set-before, set-behind, put-other, part-same, put-inside, put-before, put-behind, same-refl, field2-same, table-same, table-set, table-get, table-length, request-same, list-changed}
 
 -- ---- parts
 pub drop-take : {A : Type 0} (i n : ℕ) (l : List A) → drop i (take (i + n) l) ≡ take n (drop i l)
@@ -49,7 +52,7 @@ size-put s at n h =
     (λ i. a i * 256 + b i) ∙ div-add-mod' n 256
 
 -- a request is what the octets of its room hold
-pub request-of : (s : List ℕ) (k i : ℕ) → requestOf (part s (requestPlace k i) requestSize) ≡ requestIn s k i
+pub request-of : (s : List ℕ) (k i : ℕ) → requestOf (octet s (requestTagPlace k i)) (part s (requestPlace k i) requestSize) ≡ requestIn s k i
 unfolding requestOf requestIn
 request-of s k i =
     let at : ℕ = requestPlace k i in
@@ -57,14 +60,15 @@ request-of s k i =
     let five : at + 5 ≡ at + 4 + 1 = omega arith in
     let six : at + 6 ≡ at + 4 + 2 = omega arith in
     let seven : at + 7 ≡ at + 4 + 3 = omega arith in
-    let key = part-part s at 28 12 16 (omega arith) in
-    let originator = part-part s at 28 8 4 (omega arith) in
+    let n : ℕ = min (octet s at) 16 in
+    let name : roomName (part s at 28) 0 ≡ roomName s at =
+    ap (λ (x : ℕ). part (part s at 28) 8 (min x 16 + 4)) z ∙ part-part s at 28 8 (n + 4) (omega arith) in
     let a = octet-part s at 28 4 (omega arith) in
     let b = octet-part s at 28 5 (omega arith) ∙ ap (octet s) five in
     let c = octet-part s at 28 6 (omega arith) ∙ ap (octet s) six in
     let d = octet-part s at 28 7 (omega arith) ∙ ap (octet s) seven in
     λ j. record {
-      entry = record { key = take (z j) (key j); originator = originator j };
+      entry = taggedEntry (octet s (requestTagPlace k i)) (name j);
       number = csaOf (((a j * 256 + b j) * 256 + c j) * 256 + d j);
     }
 
@@ -95,33 +99,58 @@ module _ (s : List ℕ) (k : ℕ) (slot : k < 8) where
   }
 
   module _ (size : length s ≡ memorySize) where
-    -- a room is filled
-    module _ (v : List ℕ) (i : ℕ) (room : i < 64) (full : length v ≡ 28) where
-      other : (j : ℕ) → j < 64 → (j ≡ i → ⊥) → requestIn (putAt s (requestPlace k i) v) k j ≡ requestIn s k j
-      other j h n =
-          let at : ℕ = requestPlace k i in
-          let to : ℕ = requestPlace k j in
-          let t : List ℕ = putAt s at v in
-          let fits : at + length v ≤ length s = omega arith in
-          ne-cases j i (requestIn t k j ≡ requestIn s k j) n
-          (λ l. request-same t s k j (put-before s v at fits to (to + 28) (omega arith)))
-          (λ l. request-same t s k j (put-behind s v at fits to (to + 28) (omega arith)))
+    -- a room is filled, and its tag put
+    module _ (tag : ℕ) (v : List ℕ) (i : ℕ) (room : i < 64) (full : length v ≡ 28) where
+      abbrev at : ℕ
+      at = requestPlace k i
 
-      pub listed-room : Listed k (field2 s (listPlace k)) (set (roomsIn s k) i (requestOf v)) s (putAt s (requestPlace k i) v)
+      abbrev t : List ℕ
+      t = set (putAt s at v) (requestTagPlace k i) tag
+
+      fits : at + length v ≤ length s
+      fits = omega arith
+
+      -- elsewhere: behind the room, before the list and in the other rooms and tags
+      behind : (a b : ℕ) → at + 28 ≤ a → Same a b t s
+      behind a b h = same-trans (set-behind (putAt s at v) (requestTagPlace k i) tag a b (omega arith)) (put-behind s v at fits a b (omega arith))
+
+      before : (a b : ℕ) → requestTagPlace k i < a → b ≤ at → Same a b t s
+      before a b h g = same-trans (set-behind (putAt s at v) (requestTagPlace k i) tag a b h) (put-before s v at fits a b g)
+
+      front : (a b : ℕ) → b ≤ requestTagPlace k i → Same a b t s
+      front a b h = same-trans (set-before (putAt s at v) (requestTagPlace k i) tag a b h) (put-before s v at fits a b (omega arith))
+
+      other-tag : (j : ℕ) → j < 64 → (j ≡ i → ⊥) → octet t (requestTagPlace k j) ≡ octet s (requestTagPlace k j)
+      other-tag j h n =
+          getD-set-other (putAt s at v) (requestTagPlace k i) (requestTagPlace k j) tag 0 (λ e. n (omega arith))
+          ∙ put-other s v at fits (requestTagPlace k j) (inl (omega arith))
+
+      other : (j : ℕ) → j < 64 → (j ≡ i → ⊥) → requestIn t k j ≡ requestIn s k j
+      other j h n =
+          let to : ℕ = requestPlace k j in
+          ne-cases j i (requestIn t k j ≡ requestIn s k j) n
+          (λ l. request-same t s k j (other-tag j h n) (before to (to + 28) (omega arith) (omega arith)))
+          (λ l. request-same t s k j (other-tag j h n) (behind to (to + 28) (omega arith)))
+
+      own-room : part t at 28 ≡ v
+      own-room =
+          let e : Same at (at + 28) t (putAt s at v) = set-behind (putAt s at v) (requestTagPlace k i) tag at (at + 28) (omega arith) in
+          part-same at (at + 28) t (putAt s at v) e at 28 (omega arith) (omega arith) ∙ part-put s v at 28 (omega arith) full
+
+      own-tag : octet t (requestTagPlace k i) ≡ tag
+      own-tag =
+          let n : length (putAt s at v) ≡ length s = put-length s at v fits in
+          getD-set-same (putAt s at v) (requestTagPlace k i) tag 0 (omega arith)
+
+      pub listed-room : Listed k (field2 s (listPlace k)) (set (roomsIn s k) i (requestOf tag v)) s t
       unfolding roomsIn
-      listed-room =
-          let at : ℕ = requestPlace k i in
-          let t : List ℕ = putAt s at v in
-          let fits : at + length v ≤ length s = omega arith in
-          record {
-            used = field2-same 0 at t s (put-before s v at fits 0 at (omega arith)) (listPlace k) (omega arith) (omega arith);
-            held =
-                table-set (requestIn s k) (requestIn t k) requestsMost i room other
-                ∙ ap (set (roomsIn s k) i) (sym (request-of t k i) ∙ ap requestOf (part-put s v at 28 (omega arith) full));
-            others =
-                list-changed s t k slot (put-before s v at fits 0 (listPlace k) (omega arith))
-                (put-behind s v at fits (listPlace k + listSize) memorySize (omega arith));
-          }
+      listed-room = record {
+        used = field2-same (listPlace k) (listPlace k + 2) t s (front (listPlace k) (listPlace k + 2) (omega arith)) (listPlace k) (omega arith) (omega arith);
+        held =
+            table-set (requestIn s k) (requestIn t k) requestsMost i room other
+            ∙ ap (set (roomsIn s k) i) (sym (request-of t k i) ∙ (λ j. requestOf (own-tag j) (own-room j)));
+        others = list-changed s t k slot (front 0 (listPlace k) (omega arith)) (behind (listPlace k + listSize) memorySize (omega arith));
+      }
 
     -- another number of them is in use
     pub listed-size : (n : ℕ) → Listed k n (roomsIn s k) s (putAt s (listPlace k) (put2 n []))
@@ -135,7 +164,8 @@ module _ (s : List ℕ) (k : ℕ) (slot : k < 8) where
           used = size-put s at n fits;
           held =
               table-same (requestIn t k) (requestIn s k) requestsMost
-              (λ j h. request-same t s k j (put-behind s v at fits (requestPlace k j) (requestPlace k j + 28) (omega arith)));
+              (λ j h. request-same t s k j (put-other s v at fits (requestTagPlace k j) (inr (omega arith)))
+              (put-behind s v at fits (requestPlace k j) (requestPlace k j + 28) (omega arith)));
           others =
               list-changed s t k slot (put-before s v at fits 0 at (omega arith))
               (put-behind s v at fits (at + listSize) memorySize (omega arith));
@@ -147,7 +177,7 @@ module _ {k n m : ℕ} {l r : List Request} {s t u : List ℕ} where
     used = q .used;
     held = q .held;
     others =
-        q .others ∙ ap (withRequests k (requestsIn u k)) (p .others)
+        q .others ∙ ap (requestsPut k (requestsIn u k)) (p .others)
         ∙ ap (λ (z : List (List Request)). record { rows = memoryOf s .rows; requests = z; kept = memoryOf s .kept })
         (set-set (memoryOf s .requests) k (requestsIn t k) (requestsIn u k));
   }
@@ -156,15 +186,17 @@ module _ {k n : ℕ} {l : List Request} {s t : List ℕ} where
   pub listed-requests : Listed k n l s t → requestsIn t k ≡ take n l
   listed-requests p = requests-in t k ∙ (λ i. take (p .used i) (p .held i))
 
-  pub listed-memory : Listed k n l s t → memoryOf t ≡ withRequests k (take n l) (memoryOf s)
-  listed-memory p = p .others ∙ ap (λ (z : List Request). withRequests k z (memoryOf s)) (listed-requests p)
+  pub listed-memory : Listed k n l s t → memoryOf t ≡ requestsPut k (take n l) (memoryOf s)
+  listed-memory p = p .others ∙ ap (λ (z : List Request). requestsPut k z (memoryOf s)) (listed-requests p)
 
--- ---- the lengths of what is read in a room
-pub asked-key-short : (s : List ℕ) (at : ℕ) → length (entryAt s at .key) ≤ 16
-asked-key-short s at =
-    let a : length (take (octet s at) (part s (at + 12) 16)) ≤ length (part s (at + 12) 16) = take-short (octet s at) (part s (at + 12) 16) .1 in
-    let b : length (part s (at + 12) 16) ≤ 16 = take-short 16 (drop (at + 12) s) .0 in
-    omega arith
+-- ---- the name in a room
+pub room-name-length : (s : List ℕ) (at : ℕ) → at + requestSize ≤ length s → length (roomName s at) ≡ min (octet s at) 16 + 4
+room-name-length s at h = part-length s (at + 8) (min (octet s at) 16 + 4) (omega arith)
 
-pub asked-originator-long : (s : List ℕ) (at : ℕ) → at + requestSize ≤ length s → length (entryAt s at .originator) ≡ 4
-asked-originator-long s at h = length-take-le 4 (drop (at + 8) s) (simp length-drop (omega arith))
+module _ (s : List ℕ) (k i : ℕ) where
+  pub asked-originator-long : requestPlace k i + requestSize ≤ length s → length (requestIn s k i .entry .originator) ≡ 4
+  unfolding requestIn
+  asked-originator-long h =
+      let name : List ℕ = roomName s (requestPlace k i) in
+      let n : length name ≡ min (octet s (requestPlace k i)) 16 + 4 = room-name-length s (requestPlace k i) h in
+      ap length (tagged-originator name (octet s (requestTagPlace k i))) ∙ length-drop (length name - 4) name ∙ omega arith

@@ -9,11 +9,11 @@ use Rattle.protocol.specs.declared.CsaNumber.{CsaNumber}
 use Rattle.rules.specs.Server.{Entry, Request}
 use Rattle.rules.specs.Rows.{entryRow}
 use Rattle.rules.specs.Requests.{upToDate}
-use Rattle.memory.specs.Memory.{rowsIn, Memory, memoryOf, withRequests, requestsOf}
+use Rattle.memory.specs.Memory.{rowsIn, Memory, memoryOf, requestsPut, requestsOf}
 use Rattle.memory.specs.Lists.{Joins, TakesIn}
 
 -- a list put back where it was
-same-list : (m : Memory) (k : ℕ) → withRequests k (requestsOf m k) m ≡ m
+same-list : (m : Memory) (k : ℕ) → requestsPut k (requestsOf m k) m ≡ m
 same-list m k = ap (λ (l : List (List Request)). record { rows = m .rows; requests = l; kept = m .kept }) (set-getD (m .requests) k [])
 
 module _ (s : List ℕ) (k : ℕ) (e : Entry) (n : CsaNumber) (missed : ℕ) where

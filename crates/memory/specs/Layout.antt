@@ -25,24 +25,19 @@ topsAt = marksAt + rowsMost
 abbrev pub tagsAt : ℕ
 tagsAt = topsAt + rowsMost
 
--- ---- the request lists: of each slot the number of requests (2), then the rooms: key length (1), not used (3), number (4), originator, key
+-- ---- the request lists: of each slot the number of requests (2), then their tags together, then the rooms: key length (1), not used (3),
+-- number (4), then the name
 abbrev pub numberPlace : ℕ
 numberPlace = 4
-
-abbrev pub originatorPlace : ℕ
-originatorPlace = 8
-
-abbrev pub keyPlace : ℕ
-keyPlace = originatorPlace + idLength
 
 abbrev pub requestsAt : ℕ
 requestsAt = tagsAt + rowsMost
 
 abbrev pub requestSize : ℕ
-requestSize = keyPlace + keyMost
+requestSize = namePlace + keyMost + idLength
 
 abbrev pub listSize : ℕ
-listSize = 2 + requestsMost * requestSize
+listSize = 2 + requestsMost + requestsMost * requestSize
 
 -- ---- the kept CAs: of each slot the length (2), then room for a packet
 abbrev pub keptAt : ℕ
@@ -73,8 +68,11 @@ tagPlace i = tagsAt + i
 abbrev pub listPlace : ℕ → ℕ
 listPlace k = requestsAt + k * listSize
 
+abbrev pub requestTagPlace : ℕ → ℕ → ℕ
+requestTagPlace k i = listPlace k + 2 + i
+
 abbrev pub requestPlace : ℕ → ℕ → ℕ
-requestPlace k i = listPlace k + 2 + i * requestSize
+requestPlace k i = listPlace k + 2 + requestsMost + i * requestSize
 
 abbrev pub keptPlace : ℕ → ℕ
 keptPlace k = keptAt + k * keptSize

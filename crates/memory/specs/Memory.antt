@@ -12,7 +12,8 @@ use Rattle.protocol.specs.Sizes.{idLength, keyMost, payloadMost, packetMost}
 use Rattle.protocol.specs.Fields.{octet, field2, field4}
 use Rattle.protocol.specs.Numbers.{csaOf}
 use Rattle.rules.specs.Server.{slotsMost, rowsMost, requestsMost, Entry, Value, Row, free, used, Request}
-use Rattle.memory.specs.Layout.{numberPlace, originatorPlace, keyPlace, namePlace, rowPlace, lengthPlace, markPlace, topPlace, tagPlace, listPlace, requestPlace, keptPlace}
+use Rattle.memory.specs.Layout.{numberPlace, namePlace, rowPlace, lengthPlace, markPlace}
+use Rattle.memory.specs.Layout.{topPlace, tagPlace, listPlace, requestTagPlace, requestPlace, keptPlace}
 
 -- ---- names: key and originator of an entry, one behind the other, as in a packet
 abbrev pub entryNamed : List ℕ → Entry
@@ -41,7 +42,7 @@ nameSum name n = pick (ltb n 4) 0 (pick (ltb n 8) (word4 name 0 + word4 name (n 
 unfoldable pub tagOf : List ℕ → ℕ
 tagOf name = nameSum name (length name) % 239
 
--- The entry of a row. One whose tag is not that of its name has no key, as no packet has it: so a search may pass it by.
+-- The entry of a row or a request. One whose tag is not that of its name has no key, as no packet has it: so a search may pass it by.
 abbrev pub withoutKey : Entry → Entry
 withoutKey e = record { key = []; originator = e .originator }
 
@@ -91,16 +92,13 @@ unfoldable pub rowsIn : List ℕ → List Row
 rowsIn s = table (rowIn s) rowsMost 0
 
 -- ---- request lists
--- the entry at a place
-abbrev pub entryAt : List ℕ → ℕ → Entry
-entryAt s at = record {
-  key = take (octet s at) (part s (at + keyPlace) keyMost);
-  originator = part s (at + originatorPlace) idLength;
-}
+-- the name in the room that begins at a place; a key length over the room counts as the room
+abbrev pub roomName : List ℕ → ℕ → List ℕ
+roomName s at = part s (at + namePlace) (min (octet s at) keyMost + idLength)
 
 unfoldable pub requestIn : List ℕ → ℕ → ℕ → Request
 requestIn s k i = record {
-  entry = entryAt s (requestPlace k i);
+  entry = taggedEntry (octet s (requestTagPlace k i)) (roomName s (requestPlace k i));
   number = csaOf (field4 s (requestPlace k i + numberPlace));
 }
 
@@ -124,11 +122,11 @@ memoryOf s = record { rows = rowsIn s; requests = table (requestsIn s) slotsMost
 abbrev pub withRows : List Row → Memory → Memory
 withRows rows m = record { rows = rows; requests = m .requests; kept = m .kept }
 
-abbrev pub withRequests : ℕ → List Request → Memory → Memory
-withRequests k qs m = record { rows = m .rows; requests = lists.set (m .requests) k qs; kept = m .kept }
+abbrev pub requestsPut : ℕ → List Request → Memory → Memory
+requestsPut k qs m = record { rows = m .rows; requests = lists.set (m .requests) k qs; kept = m .kept }
 
-abbrev pub withKept : ℕ → List ℕ → Memory → Memory
-withKept k p m = record { rows = m .rows; requests = m .requests; kept = lists.set (m .kept) k p }
+abbrev pub keptPut : ℕ → List ℕ → Memory → Memory
+keptPut k p m = record { rows = m .rows; requests = m .requests; kept = lists.set (m .kept) k p }
 
 abbrev pub requestsOf : Memory → ℕ → List Request
 requestsOf m k = lists.getD (m .requests) k []

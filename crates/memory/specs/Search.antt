@@ -1,6 +1,6 @@
 -- What the functions on rows answer, and what they leave in the memory.
 -- Assumes nothing.
-use Prim.Native.Nat.{ℕ, suc, _+_, _/_, _%_, _≤_, _<_}
+use Prim.Native.Nat.{ℕ, suc, _+_, _-_, _/_, _%_, _≤_, _<_}
 use mathlib.Core.Path.{_≡_}
 use mathlib.Core.Bool.{Bool, false}
 use mathlib.Core.Logic.{_⊎_}
@@ -11,11 +11,13 @@ use Rattle.laws.specs.Choice.{pick}
 use Rattle.laws.specs.Puts.{putAt}
 use Rattle.laws.specs.Tables.{has}
 use Rattle.protocol.specs.Sizes.{idLength, keyMost, payloadMost}
+use Rattle.protocol.specs.declared.CsaNumber.{CsaNumber}
 use Rattle.protocol.specs.Fields.{octet}
+use Rattle.protocol.specs.Numbers.{bitsOf}
 use Rattle.rules.specs.Server.{rowsMost, Entry, Value, Row, free, used, isFree}
 use Rattle.rules.specs.Rows.{filled, toFree}
-use Rattle.memory.specs.Layout.{rowPlace, lengthPlace, markPlace, topPlace, tagPlace}
-use Rattle.memory.specs.Memory.{rowIn, rowsIn, Memory, memoryOf, withRows}
+use Rattle.memory.specs.Layout.{namePlace, rowPlace, lengthPlace, markPlace, topPlace, tagPlace}
+use Rattle.memory.specs.Memory.{tagOf, payloadPlace, rowIn, rowsIn, Memory, memoryOf, withRows}
 use Rattle.memory.specs.declared.rows.Found.{Found}
 use Rattle.memory.specs.declared.rows.Found.the-variants.{At, Nothing}
 use Rattle.memory.specs.declared.store.Inserted.{Inserted}
@@ -33,6 +35,13 @@ pub record FitsRow (key originator payload : List ℕ) : Type 0 where
   pub key-fits : length key ≤ keyMost
   pub originator-fits : length originator ≡ idLength
   pub payload-fits : length payload ≤ payloadMost
+
+-- a name that a row has room for, and with a payload
+abbrev pub FitsName : List ℕ → Type 0
+FitsName name = (idLength < length name) × (length name ≤ idLength + keyMost)
+
+abbrev pub FitsNamed : List ℕ → List ℕ → Type 0
+FitsNamed name payload = FitsName name × (length payload ≤ payloadMost)
 
 -- of 64 octets from `at` on the first that is t: its place, or a number past them
 pub record FirstOctet (s : List ℕ) (at t r : ℕ) : Type 0 where
@@ -68,8 +77,18 @@ abbrev pub headPut : ℕ → ℕ → ℕ → ℕ → ℕ → List ℕ → List �
 headPut i payload bits remaining marks s =
     lists.set (lists.set (putAt s (rowPlace i) (rowHead payload bits remaining)) (topPlace i) (bits / 16777216)) (markPlace i) marks
 
+-- a value and marks: every octet of the memory then
+abbrev pub valuePut : ℕ → CsaNumber → List ℕ → ℕ → ℕ → List ℕ → List ℕ
+valuePut i number payload remaining marks s = putAt (headPut i (length payload) (bitsOf number) remaining marks s) (payloadPlace s i) payload
+
 abbrev pub sectionsPut : ℕ → ℕ → ℕ → List ℕ → List ℕ
 sectionsPut i key tag s = lists.set (lists.set s (lengthPlace i) key) (tagPlace i) tag
+
+-- a row: every octet then
+abbrev pub rowPut : ℕ → List ℕ → CsaNumber → List ℕ → ℕ → ℕ → List ℕ → List ℕ
+rowPut i name number payload remaining marks s =
+    let headed = sectionsPut i (length name - idLength) (tagOf name) (headPut i (length payload) (bitsOf number) remaining marks s) in
+    putAt (putAt headed (rowPlace i + namePlace) name) (rowPlace i + namePlace + length name) payload
 
 -- the lowest free row is filled; without one, no octet changes
 pub record Inserts (r : Row) (before after : List ℕ) (a : Inserted) : Type 0 where

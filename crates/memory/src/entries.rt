@@ -10,9 +10,10 @@ ghost use Rattle.rules.specs.Server.{slotsMost, rowsMost, Entry, holds};
 ghost use Rattle.rules.specs.Rows.{entryRow, unmarked};
 ghost use Rattle.rules.specs.Requests.{upToDate};
 ghost use Rattle.rules.specs.Updates.{value, stepped, changedRow, purgedRow, setRows, withdrawRows, purgeRows, stored, waitsAgain, rowsBy, replied};
+ghost use Rattle.memory.specs.declared.rows.Found.the-variants.{Nothing};
 ghost use Rattle.memory.specs.Layout.{memorySize};
-ghost use Rattle.memory.specs.Memory.{isMarked, rowIn, rowsIn, memoryOf};
-ghost use Rattle.memory.specs.Search.{entry, withRow, FitsKey, FitsRow, FoundBelow, firstFrom};
+ghost use Rattle.memory.specs.Memory.{entryNamed, isMarked, rowIn, rowsIn, memoryOf};
+ghost use Rattle.memory.specs.Search.{withRow, FitsName, FitsNamed, FoundBelow, firstFrom};
 ghost use Rattle.memory.specs.Entries.{received, rowsAs, putRows};
 use crate::marks;
 use crate::rows;
@@ -35,22 +36,21 @@ fn one_less(hops: u16) -> u16
 fn put_entry(
     memory: &mut [u8],
     found: Found,
-    key: &[u8],
-    originator: &[u8],
+    name: &[u8],
     number: CsaNumber,
     payload: &[u8],
     remaining: u16,
     marks: u8,
 )
-    requires { ⌜ ((length (now memory) ≡ memorySize) × FitsRow (now key) (now originator) (now payload))
-        × (found ≡ firstFrom (holds (entry (now key) (now originator))) 0 (rowsIn (now memory))) ⌝ }
-    ensures { λ _. ⌜ memoryOf (now (memory .exit)) ≡ rowsAs (putRows (entry (now (key .entry)) (now (originator .entry)))
+    requires { ⌜ ((length (now memory) ≡ memorySize) × FitsNamed (now name) (now payload))
+        × (found ≡ firstFrom (holds (entryNamed (now name))) 0 (rowsIn (now memory))) ⌝ }
+    ensures { λ _. ⌜ memoryOf (now (memory .exit)) ≡ rowsAs (putRows (entryNamed (now (name .entry)))
         (value number (now (payload .entry)) remaining) (isMarked marks)) (now (memory .entry)) ⌝ }
 {
     match found {
         Found::At(i) => store::put_value(memory, i, number, payload, remaining, marks),
         Found::Nothing => {
-            store::insert(memory, key, originator, number, payload, remaining, marks);
+            store::insert(memory, name, number, payload, remaining, marks);
         }
     }
 }
@@ -61,29 +61,19 @@ pub fn store_record(
     found: Found,
     live: u8,
     k: usize,
-    key: &[u8],
-    originator: &[u8],
+    name: &[u8],
     number: CsaNumber,
     payload: &[u8],
     hops: u16,
 )
-    requires { ⌜ ((length (now memory) ≡ memorySize) × ((k < slotsMost) × FitsRow (now key) (now originator) (now payload)))
-        × (found ≡ firstFrom (holds (entry (now key) (now originator))) 0 (rowsIn (now memory))) ⌝ }
+    requires { ⌜ ((length (now memory) ≡ memorySize) × ((k < slotsMost) × FitsNamed (now name) (now payload)))
+        × (found ≡ firstFrom (holds (entryNamed (now name))) 0 (rowsIn (now memory))) ⌝ }
     ensures { λ _. ⌜ memoryOf (now (memory .exit)) ≡ rowsAs (rowsBy stored (isMarked live) k
-        (received hops number (entry (now (key .entry)) (now (originator .entry))) (now (payload .entry)))) (now (memory .entry)) ⌝ }
+        (received hops number (entryNamed (now (name .entry))) (now (payload .entry)))) (now (memory .entry)) ⌝ }
 {
     let remaining = one_less(hops);
     let marks = marks::spread_of(live, k, remaining);
-    put_entry(
-        memory,
-        found,
-        key,
-        originator,
-        number,
-        payload,
-        remaining,
-        marks,
-    );
+    put_entry(memory, found, name, number, payload, remaining, marks);
 }
 
 // A record equal to what is held: the row that was found waits for slot k no more.
@@ -91,6 +81,7 @@ pub fn equal_record(memory: &mut [u8], k: usize, found: Found)
     requires { ⌜ ((length (now memory) ≡ memorySize) × (k < slotsMost)) × FoundBelow found ⌝ }
     ensures { λ _. ⌜ ((e : Entry) → found ≡ firstFrom (holds e) 0 (rowsIn (now (memory .entry))) → memoryOf (now (memory .exit))
         ≡ rowsAs (tables.change (holds e) (unmarked k)) (now (memory .entry))) ⌝ }
+    ensures kept { λ _. ⌜ (found ≡ Nothing → now (memory .exit) ≡ now (memory .entry)) ⌝ }
 {
     match found {
         Found::At(i) => marks::clear_mark(memory, i, k),
@@ -103,6 +94,7 @@ pub fn older_record(memory: &mut [u8], k: usize, found: Found)
     requires { ⌜ ((length (now memory) ≡ memorySize) × (k < slotsMost)) × FoundBelow found ⌝ }
     ensures { λ _. ⌜ ((e : Entry) → found ≡ firstFrom (holds e) 0 (rowsIn (now (memory .entry))) → memoryOf (now (memory .exit))
         ≡ rowsAs (tables.change (holds e) (waitsAgain k)) (now (memory .entry))) ⌝ }
+    ensures kept { λ _. ⌜ (found ≡ Nothing → now (memory .exit) ≡ now (memory .entry)) ⌝ }
 {
     match found {
         Found::At(i) => marks::mark_again(memory, i, k),
@@ -111,14 +103,14 @@ pub fn older_record(memory: &mut [u8], k: usize, found: Found)
 }
 
 // ---- a record of a CSU Reply from slot k
-pub fn reply_record(memory: &mut [u8], k: usize, key: &[u8], originator: &[u8], number: CsaNumber)
-    requires { ⌜ ((length (now memory) ≡ memorySize) × (k < slotsMost)) × FitsKey (now key) (now originator) ⌝ }
-    ensures { λ _. ⌜ memoryOf (now (memory .exit)) ≡ rowsAs (tables.change (holds (entry (now (key .entry)) (now (originator .entry)))) (replied k number))
+pub fn reply_record(memory: &mut [u8], k: usize, name: &[u8], number: CsaNumber)
+    requires { ⌜ ((length (now memory) ≡ memorySize) × (k < slotsMost)) × FitsName (now name) ⌝ }
+    ensures { λ _. ⌜ memoryOf (now (memory .exit)) ≡ rowsAs (tables.change (holds (entryNamed (now (name .entry)))) (replied k number))
         (now (memory .entry)) ⌝ }
-    ensures kept { λ _. ⌜ (tables.has (holds (entry (now (key .entry)) (now (originator .entry)))) (rowsIn (now (memory .entry))) ≡ false
+    ensures kept { λ _. ⌜ (tables.has (holds (entryNamed (now (name .entry)))) (rowsIn (now (memory .entry))) ≡ false
         → now (memory .exit) ≡ now (memory .entry)) ⌝ }
 {
-    match rows::find(memory, key, originator) {
+    match rows::find(memory, name) {
         Found::At(i) => marks::reply_mark(memory, i, k, number),
         Found::Nothing => {}
     }
@@ -153,31 +145,16 @@ fn purge_row(memory: &mut [u8], live: u8, i: usize)
 }
 
 // An entry of ours, in the row that was found for it, or new.
-pub fn set_entry(
-    memory: &mut [u8],
-    found: Found,
-    live: u8,
-    key: &[u8],
-    originator: &[u8],
-    payload: &[u8],
-)
-    requires { ⌜ ((length (now memory) ≡ memorySize) × FitsRow (now key) (now originator) (now payload))
-        × (found ≡ firstFrom (holds (entry (now key) (now originator))) 0 (rowsIn (now memory))) ⌝ }
-    ensures { λ _. ⌜ memoryOf (now (memory .exit)) ≡ rowsAs (setRows (isMarked live) (entry (now (key .entry)) (now (originator .entry)))
+pub fn set_entry(memory: &mut [u8], found: Found, live: u8, name: &[u8], payload: &[u8])
+    requires { ⌜ ((length (now memory) ≡ memorySize) × FitsNamed (now name) (now payload))
+        × (found ≡ firstFrom (holds (entryNamed (now name))) 0 (rowsIn (now memory))) ⌝ }
+    ensures { λ _. ⌜ memoryOf (now (memory .exit)) ≡ rowsAs (setRows (isMarked live) (entryNamed (now (name .entry)))
         (now (payload .entry))) (now (memory .entry)) ⌝ }
 {
     match found {
         Found::At(i) => change_row(memory, live, i, payload),
         Found::Nothing => {
-            store::insert(
-                memory,
-                key,
-                originator,
-                CsaNumber(-2147483647),
-                payload,
-                16,
-                live,
-            );
+            store::insert(memory, name, CsaNumber(-2147483647), payload, 16, live);
         }
     }
 }
@@ -187,6 +164,7 @@ pub fn withdraw_entry(memory: &mut [u8], live: u8, found: Found)
     requires { ⌜ (length (now memory) ≡ memorySize) × FoundBelow found ⌝ }
     ensures { λ _. ⌜ ((e : Entry) → found ≡ firstFrom (holds e) 0 (rowsIn (now (memory .entry))) → memoryOf (now (memory .exit))
         ≡ rowsAs (withdrawRows (isMarked live) e) (now (memory .entry))) ⌝ }
+    ensures kept { λ _. ⌜ (found ≡ Nothing → now (memory .exit) ≡ now (memory .entry)) ⌝ }
 {
     let none = [0u8; 0];
     match found {
@@ -200,6 +178,7 @@ pub fn purge_entry(memory: &mut [u8], live: u8, found: Found)
     requires { ⌜ (length (now memory) ≡ memorySize) × FoundBelow found ⌝ }
     ensures { λ _. ⌜ ((e : Entry) → found ≡ firstFrom (holds e) 0 (rowsIn (now (memory .entry))) → memoryOf (now (memory .exit))
         ≡ rowsAs (purgeRows (isMarked live) e) (now (memory .entry))) ⌝ }
+    ensures kept { λ _. ⌜ (found ≡ Nothing → now (memory .exit) ≡ now (memory .entry)) ⌝ }
 {
     match found {
         Found::At(i) => purge_row(memory, live, i),
@@ -209,11 +188,11 @@ pub fn purge_entry(memory: &mut [u8], live: u8, found: Found)
 
 // ---- what is held
 // Whether the row of the entry has a number no smaller.
-pub fn is_up_to_date(memory: &[u8], key: &[u8], originator: &[u8], number: CsaNumber) -> bool
-    requires { ⌜ (length (now memory) ≡ memorySize) × FitsKey (now key) (now originator) ⌝ }
-    ensures { λ r. ⌜ r ≡ upToDate number (entryRow (entry (now (key .entry)) (now (originator .entry))) (rowsIn (now (memory .entry)))) ⌝ }
+pub fn is_up_to_date(memory: &[u8], name: &[u8], number: CsaNumber) -> bool
+    requires { ⌜ (length (now memory) ≡ memorySize) × FitsName (now name) ⌝ }
+    ensures { λ r. ⌜ r ≡ upToDate number (entryRow (entryNamed (now (name .entry))) (rowsIn (now (memory .entry)))) ⌝ }
 {
-    match rows::find(memory, key, originator) {
+    match rows::find(memory, name) {
         Found::At(i) => !numbers::newer(number, rows::number_of(memory, i)),
         Found::Nothing => false,
     }

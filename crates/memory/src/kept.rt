@@ -5,7 +5,7 @@ ghost use Prim.Native.Nat.{_+_, _≤_, _<_};
 ghost use lib.ListN.{length};
 ghost use Rattle.laws.specs.Puts.{written};
 ghost use Rattle.memory.specs.Layout.{memorySize, keptPlace};
-ghost use Rattle.memory.specs.Memory.{keptIn, memoryOf, withKept};
+ghost use Rattle.memory.specs.Memory.{keptIn, memoryOf, keptPut};
 use crate::layout::KEPT_AT;
 use crate::layout::KEPT_SIZE;
 use crate::layout::PACKET;
@@ -21,7 +21,7 @@ fn place(k: usize) -> usize
 // A CA is kept.
 pub fn keep(memory: &mut [u8], k: usize, src: &[u8])
     requires { ⌜ (k < 8) × ((length (now src) ≤ 284) × (length (now memory) ≡ memorySize)) ⌝ }
-    ensures { λ _. ⌜ memoryOf (now (memory .exit)) ≡ withKept k (now (src .entry)) (memoryOf (now (memory .entry))) ⌝ }
+    ensures { λ _. ⌜ memoryOf (now (memory .exit)) ≡ keptPut k (now (src .entry)) (memoryOf (now (memory .entry))) ⌝ }
 {
     let at = place(k);
     sizes::put_size(memory, at, src.len());
@@ -31,7 +31,7 @@ pub fn keep(memory: &mut [u8], k: usize, src: &[u8])
 // None is.
 pub fn drop_kept(memory: &mut [u8], k: usize)
     requires { ⌜ (k < 8) × (length (now memory) ≡ memorySize) ⌝ }
-    ensures { λ _. ⌜ memoryOf (now (memory .exit)) ≡ withKept k [] (memoryOf (now (memory .entry))) ⌝ }
+    ensures { λ _. ⌜ memoryOf (now (memory .exit)) ≡ keptPut k [] (memoryOf (now (memory .entry))) ⌝ }
 {
     sizes::put_size(memory, place(k), 0)
 }
@@ -55,7 +55,7 @@ pub fn kept_of(memory: &[u8], k: usize) -> &[u8]
 }
 
 // The kept CA is written out: its length.
-pub fn give(memory: &[u8], k: usize, out: &mut [u8]) -> usize
+pub fn copy_kept(memory: &[u8], k: usize, out: &mut [u8]) -> usize
     requires { ⌜ (k < 8) × ((284 ≤ length (now out)) × (length (now memory) ≡ memorySize)) ⌝ }
     ensures { λ r. ⌜ (r ≡ length (keptIn (now (memory .entry)) k)) × (now (out .exit) ≡ written (keptIn (now (memory .entry)) k) (now (out .entry))) ⌝ }
 {

@@ -12,15 +12,11 @@ pub const KEY: usize = 16;
 
 pub const PAYLOAD: usize = 32;
 
-// Where the name stands in a row's body.
+// Where the name stands in a row's body and in a request's room.
 pub const NAME_PLACE: usize = 8;
 
-// In a request's room.
+// The number in a request's room.
 pub const NUMBER_PLACE: usize = 4;
-
-pub const ORIGINATOR_PLACE: usize = 8;
-
-pub const KEY_PLACE: usize = 12;
 
 pub const ROW_SIZE: usize = 64;
 
@@ -35,12 +31,14 @@ pub const TAGS_AT: usize = 4288;
 
 pub const REQUESTS_AT: usize = 4352;
 
-pub const ROOMS_AT: usize = 4354;
+pub const REQUEST_TAGS_AT: usize = 4354;
+
+pub const ROOMS_AT: usize = 4418;
 
 pub const REQUEST_SIZE: usize = 28;
 
-pub const LIST_SIZE: usize = 1794;
+pub const LIST_SIZE: usize = 1858;
 
-pub const KEPT_AT: usize = 18704;
+pub const KEPT_AT: usize = 19216;
 
 pub const KEPT_SIZE: usize = 286;

@@ -1,17 +1,18 @@
 // The marks: which slots a used row waits for. Bit k of a row's octet is slot k; a free row waits for none, whatever its octet says.
 ghost use mathlib.Core.Path.{_≡_};
-ghost use mathlib.Core.Bool.{true, false};
+ghost use mathlib.Core.Bool.{true, false, _||_};
 ghost use mathlib.Core.List.{map};
 ghost use Prim.Native.Nat.{_^_, _<_};
 ghost use lib.Dec.{eqb};
 ghost use lib.ListN.{length};
 ghost use Rattle.laws.specs.Choice.{pick};
 ghost use Rattle.laws.specs.Tables.{on, has};
+ghost use Rattle.protocol.specs.Numbers as definition;
 ghost use Rattle.rules.specs.Server.{slotsMost, rowsMost, waitsFor, rowAt};
 ghost use Rattle.rules.specs.Rows as rules;
 ghost use Rattle.rules.specs.Updates.{waitsAgain, replied};
 ghost use Rattle.memory.specs.Layout.{memorySize};
-ghost use Rattle.memory.specs.Memory.{isMarked, rowsIn, memoryOf, withRows};
+ghost use Rattle.memory.specs.Memory.{isMarked, valueAt, rowsIn, memoryOf, withRows};
 ghost use Rattle.memory.specs.Marks.{withMarks, marked, changedAt, AnyMarks};
 use crate::layout::LENGTHS_AT;
 use crate::layout::MARKS_AT;
@@ -141,6 +142,7 @@ pub fn clear_mark(memory: &mut [u8], i: usize, k: usize)
 pub fn mark_again(memory: &mut [u8], i: usize, k: usize)
     requires { ⌜ (length (now memory) ≡ memorySize) × ((i < rowsMost) × (k < slotsMost)) ⌝ }
     ensures { λ _. ⌜ memoryOf (now (memory .exit)) ≡ changedAt (waitsAgain k) i (now (memory .entry)) ⌝ }
+    ensures kept { λ _. ⌜ (valueAt (now (memory .entry)) i .remaining ≡ 0 → now (memory .exit) ≡ now (memory .entry)) ⌝ }
 {
     if rows::remaining_of(memory, i) == 0 {
         return;
@@ -152,6 +154,8 @@ pub fn mark_again(memory: &mut [u8], i: usize, k: usize)
 pub fn reply_mark(memory: &mut [u8], i: usize, k: usize, number: CsaNumber)
     requires { ⌜ (length (now memory) ≡ memorySize) × ((i < rowsMost) × (k < slotsMost)) ⌝ }
     ensures { λ _. ⌜ memoryOf (now (memory .exit)) ≡ changedAt (replied k number) i (now (memory .entry)) ⌝ }
+    ensures kept { λ _. ⌜ ((definition.newer number (valueAt (now (memory .entry)) i .number)
+        || definition.newer (valueAt (now (memory .entry)) i .number) number) ≡ true → now (memory .exit) ≡ now (memory .entry)) ⌝ }
 {
     let held = rows::number_of(memory, i);
     if numbers::newer(number, held) {

@@ -4,7 +4,10 @@ ghost use mathlib.Core.List.{_++_};
 ghost use Prim.Native.Nat.{_+_, _≤_};
 ghost use lib.ListN.{length, take};
 ghost use Rattle.laws.specs.Puts.{putAt};
+ghost use Rattle.memory.specs.Memory.{taggedEntry};
 ghost use Rattle.memory.specs.Search.{FitsKey};
+use crate::layout::ID;
+use crate::tags;
 
 pub struct Name {
     pub octets: [u8; 20],
@@ -31,4 +34,16 @@ pub fn of_entry(key: &[u8], originator: &[u8]) -> Name
     let b = [0u8; 20];
     let octets = put_in(put_in(b, 0, key), n, originator);
     Name { octets, len: n + 4 }
+}
+
+// The name of the entry of a tag and a name: where the tag is not that of the name, the originator alone.
+pub fn tagged(name: &[u8], tag: u8) -> &[u8]
+    requires { ⌜ 4 ≤ length (now name) ⌝ }
+    ensures { λ r. ⌜ (now r ≡ taggedEntry tag (now (name .entry)) .key ++ taggedEntry tag (now (name .entry)) .originator)
+        × ((4 ≤ length (now r)) × (length (now r) ≤ length (now (name .entry)))) ⌝ }
+{
+    if tag == tags::tag_of(name) {
+        return name;
+    }
+    octets::tail(name, name.len() - ID)
 }

@@ -1,23 +1,23 @@
-// One room of a request list: its octets, and a request put there.
+// One room of a request list: its octets and its tag, and a request put there.
 ghost use mathlib.Core.Path.{_≡_};
 ghost use Prim.Native.Nat.{_+_, _≤_, _<_};
 ghost use lib.ListN.{length, getD, set};
-ghost use Rattle.laws.specs.Lists.{part};
 ghost use Rattle.laws.specs.Puts.{putAt};
-ghost use Rattle.protocol.specs.Fields.{field2};
-ghost use Rattle.memory.specs.Layout.{requestSize, memorySize, listPlace, requestPlace};
-ghost use Rattle.rules.specs.Server.{sameEntry};
-ghost use Rattle.memory.specs.Memory.{entryAt};
-ghost use Rattle.memory.specs.Search.{entry};
+ghost use Rattle.protocol.specs.Fields.{octet, field2};
+ghost use Rattle.rules.specs.Requests as rules;
+ghost use Rattle.memory.specs.Layout.{requestSize, memorySize, listPlace, requestTagPlace, requestPlace};
+ghost use Rattle.memory.specs.Memory.{entryNamed, tagOf, roomName};
+ghost use Rattle.memory.specs.Search.{FitsName};
 ghost use Rattle.memory.specs.Lists as lists;
 ghost use Rattle.memory.specs.Lists.{requestOf, roomsIn, noRequest, Listed};
 use crate::layout::ID;
 use crate::layout::KEY;
-use crate::layout::KEY_PLACE;
 use crate::layout::LIST_SIZE;
-use crate::layout::ORIGINATOR_PLACE;
+use crate::layout::NAME_PLACE;
 use crate::layout::REQUEST_SIZE;
+use crate::layout::REQUEST_TAGS_AT;
 use crate::layout::ROOMS_AT;
+use crate::sizes;
 use protocol::CsaNumber;
 
 // Where room i of slot k's list begins.
@@ -28,58 +28,63 @@ pub fn place(k: usize, i: usize) -> usize
     ROOMS_AT + k * LIST_SIZE + i * REQUEST_SIZE
 }
 
-// The n octets at a place that is inside.
-fn inside(memory: &[u8], at: usize, n: usize) -> &[u8]
-    requires { ⌜ at + n ≤ length (now memory) ⌝ }
-    ensures { λ r. ⌜ now r ≡ part (now (memory .entry)) at n ⌝ }
+// Where its tag stands.
+pub fn tag_place(k: usize, i: usize) -> usize
+    requires { ⌜ (k < 8) × (i < 64) ⌝ }
+    ensures { λ r. ⌜ (r ≡ requestTagPlace k i) × (r < memorySize) ⌝ }
 {
-    let to = at + n;
-    &memory[at..to]
+    REQUEST_TAGS_AT + k * LIST_SIZE + i
 }
 
-pub fn key_at(memory: &[u8], at: usize) -> &[u8]
-    requires { ⌜ (length (now memory) ≡ memorySize) × (at + requestSize ≤ memorySize) ⌝ }
-    ensures { λ r. ⌜ now r ≡ entryAt (now (memory .entry)) at .key ⌝ }
-{
-    let n = memory[at] as usize;
-    octets::first(inside(memory, at + KEY_PLACE, KEY), n)
-}
-
-pub fn originator_at(memory: &[u8], at: usize) -> &[u8]
-    requires { ⌜ (length (now memory) ≡ memorySize) × (at + requestSize ≤ memorySize) ⌝ }
-    ensures { λ r. ⌜ now r ≡ entryAt (now (memory .entry)) at .originator ⌝ }
-{
-    inside(memory, at + ORIGINATOR_PLACE, ID)
-}
-
-// Whether it is this entry: the key first, by its length and then its octets.
-pub fn entry_is(memory: &[u8], at: usize, key: &[u8], originator: &[u8]) -> bool
-    requires { ⌜ (length (now memory) ≡ memorySize) × (at + requestSize ≤ memorySize) ⌝ }
-    ensures { λ r. ⌜ r ≡ sameEntry (entryAt (now (memory .entry)) at) (entry (now (key .entry)) (now (originator .entry))) ⌝ }
-{
-    if octets::same(key_at(memory, at), key) {
-        let held = originator_at(memory, at);
-        return octets::same(held, originator);
-    }
-    false
-}
-
-// The octets of a room, and octets into a room.
-pub fn lift(memory: &[u8], k: usize, i: usize) -> [u8; 28]
+pub fn tag_at(memory: &[u8], k: usize, i: usize) -> u8
     requires { ⌜ (k < 8) × ((i < 64) × (length (now memory) ≡ memorySize)) ⌝ }
-    ensures { λ r. ⌜ (length r ≡ 28) × (requestOf r ≡ getD (roomsIn (now (memory .entry)) k) i noRequest) ⌝ }
+    ensures { λ r. ⌜ r ≡ octet (now (memory .entry)) (requestTagPlace k i) ⌝ }
+{
+    memory[tag_place(k, i)]
+}
+
+// The name in the room that begins at a place; a key length over the room counts as the room.
+pub fn name_at(memory: &[u8], at: usize) -> &[u8]
+    requires { ⌜ (length (now memory) ≡ memorySize) × (at + requestSize ≤ memorySize) ⌝ }
+    ensures { λ r. ⌜ now r ≡ roomName (now (memory .entry)) at ⌝ }
+{
+    let n = sizes::at_most(memory[at] as usize, KEY);
+    let from = at + NAME_PLACE;
+    let to = from + n + ID;
+    &memory[from..to]
+}
+
+// Whether the room's request is for the entry, whose tag is t.
+pub fn asks(memory: &[u8], k: usize, i: usize, name: &[u8], t: u8) -> bool
+    requires { ⌜ (k < 8) × ((i < 64) × (length (now memory) ≡ memorySize)) ⌝ }
+    requires { ⌜ (4 < length (now name)) × (t ≡ tagOf (now name)) ⌝ }
+    ensures { λ r. ⌜ r ≡ rules.asks (entryNamed (now (name .entry))) (getD (roomsIn (now (memory .entry)) k) i noRequest) ⌝ }
+{
+    if tag_at(memory, k, i) != t {
+        return false;
+    }
+    let held = name_at(memory, place(k, i));
+    octets::same(held, name)
+}
+
+// The octets of a room, and a tag and octets into a room.
+pub fn room_octets(memory: &[u8], k: usize, i: usize) -> [u8; 28]
+    requires { ⌜ (k < 8) × ((i < 64) × (length (now memory) ≡ memorySize)) ⌝ }
+    ensures { λ r. ⌜ (length r ≡ 28)
+        × (requestOf (octet (now (memory .entry)) (requestTagPlace k i)) r ≡ getD (roomsIn (now (memory .entry)) k) i noRequest) ⌝ }
 {
     let mut q = [0u8; 28];
     bytes::copy(octets::part_of(memory, place(k, i), REQUEST_SIZE), &mut q);
     q
 }
 
-pub fn lay(memory: &mut [u8], k: usize, i: usize, q: &[u8])
+pub fn put_room(memory: &mut [u8], k: usize, i: usize, tag: u8, q: &[u8])
     requires { ⌜ (k < 8) × ((i < 64) × ((length (now q) ≡ 28) × (length (now memory) ≡ memorySize))) ⌝ }
-    ensures { λ _. ⌜ Listed k (field2 (now (memory .entry)) (listPlace k)) (set (roomsIn (now (memory .entry)) k) i (requestOf (now (q .entry))))
+    ensures { λ _. ⌜ Listed k (field2 (now (memory .entry)) (listPlace k)) (set (roomsIn (now (memory .entry)) k) i (requestOf tag (now (q .entry))))
         (now (memory .entry)) (now (memory .exit)) ⌝ }
 {
     octets::put(memory, place(k, i), q);
+    memory[tag_place(k, i)] = tag;
 }
 
 pub fn copy_request(memory: &mut [u8], k: usize, from: usize, to: usize)
@@ -87,8 +92,9 @@ pub fn copy_request(memory: &mut [u8], k: usize, from: usize, to: usize)
     ensures { λ _. ⌜ Listed k (field2 (now (memory .entry)) (listPlace k)) (set (roomsIn (now (memory .entry)) k) to
         (getD (roomsIn (now (memory .entry)) k) from noRequest)) (now (memory .entry)) (now (memory .exit)) ⌝ }
 {
-    let q = lift(memory, k, from);
-    lay(memory, k, to, &q)
+    let tag = tag_at(memory, k, from);
+    let q = room_octets(memory, k, from);
+    put_room(memory, k, to, tag, &q)
 }
 
 // b with src in its place from at on.
@@ -102,7 +108,7 @@ fn put_in(b: [u8; 28], at: usize, src: &[u8]) -> [u8; 28]
     q
 }
 
-// A room's octets with key length and number; originator and key are zero.
+// A room's octets with key length and number; the name is zero.
 fn head(n: u8, bits: u32) -> [u8; 28]
     ensures { λ r. ⌜ r ≡ lists.headOf n bits ⌝ }
 {
@@ -115,26 +121,19 @@ fn head(n: u8, bits: u32) -> [u8; 28]
     q
 }
 
-fn pack(key: &[u8], originator: &[u8], number: CsaNumber) -> [u8; 28]
-    requires { ⌜ (length (now key) ≤ 16) × (length (now originator) ≡ 4) ⌝ }
-    ensures { λ r. ⌜ (length r ≡ 28) × (requestOf r ≡ record { entry = entry (now (key .entry)) (now (originator .entry)); number = number }) ⌝ }
+fn pack(name: &[u8], number: CsaNumber) -> [u8; 28]
+    requires { ⌜ FitsName (now name) ⌝ }
+    ensures { λ r. ⌜ (length r ≡ 28) × (requestOf (tagOf (now (name .entry))) r ≡ record { entry = entryNamed (now (name .entry)); number = number }) ⌝ }
 {
-    let b = head(key.len() as u8, numbers::bits_of(number));
-    put_in(put_in(b, ORIGINATOR_PLACE, originator), KEY_PLACE, key)
+    let b = head((name.len() - ID) as u8, numbers::bits_of(number));
+    put_in(b, NAME_PLACE, name)
 }
 
-pub fn put_request(
-    memory: &mut [u8],
-    k: usize,
-    i: usize,
-    key: &[u8],
-    originator: &[u8],
-    number: CsaNumber,
-)
-    requires { ⌜ ((k < 8) × (i < 64)) × (((length (now key) ≤ 16) × (length (now originator) ≡ 4)) × (length (now memory) ≡ memorySize)) ⌝ }
+pub fn put_request(memory: &mut [u8], k: usize, i: usize, name: &[u8], t: u8, number: CsaNumber)
+    requires { ⌜ ((k < 8) × (i < 64)) × ((FitsName (now name) × (t ≡ tagOf (now name))) × (length (now memory) ≡ memorySize)) ⌝ }
     ensures { λ _. ⌜ Listed k (field2 (now (memory .entry)) (listPlace k)) (set (roomsIn (now (memory .entry)) k) i
-        (record { entry = entry (now (key .entry)) (now (originator .entry)); number = number })) (now (memory .entry)) (now (memory .exit)) ⌝ }
+        (record { entry = entryNamed (now (name .entry)); number = number })) (now (memory .entry)) (now (memory .exit)) ⌝ }
 {
-    let q = pack(key, originator, number);
-    lay(memory, k, i, &q)
+    let q = pack(name, number);
+    put_room(memory, k, i, t, &q)
 }

@@ -2,16 +2,15 @@
 ghost use mathlib.Core.Path.{_≡_};
 ghost use mathlib.Core.Bool.{not};
 ghost use mathlib.Core.List.{_++_};
-ghost use Prim.Native.Nat.{_+_, _-_, _≤_, _<_};
+ghost use Prim.Native.Nat.{_≤_, _<_};
 ghost use lib.Dec.{eqb};
 ghost use lib.ListN.{length, drop};
 ghost use Rattle.laws.specs.Choice.{pick};
-ghost use Rattle.laws.specs.Lists.{part};
-ghost use Rattle.protocol.specs.Sizes.{idLength};
+ghost use Rattle.laws.specs.Tables.{has};
 ghost use Rattle.rules.specs.Server.{rowsMost, isFree, isUsed, holds, rowsUsed};
-ghost use Rattle.memory.specs.Layout.{memorySize, namePlace, rowPlace};
+ghost use Rattle.memory.specs.Layout.{memorySize};
 ghost use Rattle.memory.specs.Memory.{entryNamed, tagOf, keyRoom, rowName, rowEntry, bitsAt, payloadLength, valueAt, rowIn, rowsIn};
-ghost use Rattle.memory.specs.Search.{entry, FitsKey, firstFrom};
+ghost use Rattle.memory.specs.Search.{firstFrom};
 use crate::layout::ID;
 use crate::layout::KEY;
 use crate::layout::LENGTHS_AT;
@@ -22,6 +21,7 @@ use crate::layout::ROWS;
 use crate::layout::TAGS_AT;
 use crate::layout::TOPS_AT;
 use crate::names;
+use crate::sizes;
 use crate::tags;
 use protocol::CsaNumber;
 
@@ -43,11 +43,7 @@ pub fn key_room(memory: &[u8], i: usize) -> usize
     requires { ⌜ (length (now memory) ≡ memorySize) × (i < rowsMost) ⌝ }
     ensures { λ r. ⌜ (r ≡ keyRoom (now (memory .entry)) i) × (r ≤ 16) ⌝ }
 {
-    let n = memory[LENGTHS_AT + i] as usize;
-    if n < KEY {
-        return n;
-    }
-    KEY
+    sizes::at_most(memory[LENGTHS_AT + i] as usize, KEY)
 }
 
 pub fn name_of(memory: &[u8], i: usize) -> &[u8]
@@ -59,75 +55,41 @@ pub fn name_of(memory: &[u8], i: usize) -> &[u8]
     &memory[at..to]
 }
 
-// The length of the entry's key: 0 where the tag is not that of the name.
-pub fn key_len(memory: &[u8], i: usize) -> usize
-    requires { ⌜ (length (now memory) ≡ memorySize) × (i < rowsMost) ⌝ }
-    ensures { λ r. ⌜ (r ≡ length (rowEntry (now (memory .entry)) i .key)) × (r ≤ 16) ⌝ }
-{
-    if memory[TAGS_AT + i] == tags::tag_of(name_of(memory, i)) {
-        return key_room(memory, i);
-    }
-    0
-}
-
 pub fn payload_len(memory: &[u8], i: usize) -> usize
     requires { ⌜ (length (now memory) ≡ memorySize) × (i < rowsMost) ⌝ }
     ensures { λ r. ⌜ (r ≡ payloadLength (now (memory .entry)) i) × (r ≤ 32) ⌝ }
 {
-    let n = memory[i * ROW_SIZE] as usize;
-    if n < PAYLOAD {
-        return n;
-    }
-    PAYLOAD
+    sizes::at_most(memory[i * ROW_SIZE] as usize, PAYLOAD)
 }
 
-// The last n octets of the key's room, the originator, and m octets more.
-fn around(memory: &[u8], i: usize, n: usize, m: usize) -> &[u8]
-    requires { ⌜ ((length (now memory) ≡ memorySize) × (i < rowsMost)) × ((n ≤ keyRoom (now memory) i) × (m ≤ 32)) ⌝ }
-    ensures { λ r. ⌜ now r ≡ part (now (memory .entry)) (rowPlace i + namePlace + keyRoom (now (memory .entry)) i - n) (n + idLength + m) ⌝ }
+// The name of the entry: without a key, the originator alone.
+pub fn entry_of(memory: &[u8], i: usize) -> &[u8]
+    requires { ⌜ (length (now memory) ≡ memorySize) × (i < rowsMost) ⌝ }
+    ensures { λ r. ⌜ (now r ≡ rowEntry (now (memory .entry)) i .key ++ rowEntry (now (memory .entry)) i .originator)
+        × ((4 ≤ length (now r)) × (length (now r) ≤ 20)) ⌝ }
 {
-    let end = i * ROW_SIZE + NAME_PLACE + key_room(memory, i);
-    let from = end - n;
-    let to = end + ID + m;
-    &memory[from..to]
-}
-
-// Key and originator of the entry, whose key has n octets.
-pub fn entry_of(memory: &[u8], i: usize, n: usize) -> &[u8]
-    requires { ⌜ ((length (now memory) ≡ memorySize) × (i < rowsMost)) × (n ≡ length (rowEntry (now memory) i .key)) ⌝ }
-    ensures { λ r. ⌜ now r ≡ rowEntry (now (memory .entry)) i .key ++ rowEntry (now (memory .entry)) i .originator ⌝ }
-{
-    around(memory, i, n, 0)
-}
-
-// Key, originator and payload, one behind the other.
-pub fn body_of(memory: &[u8], i: usize, n: usize) -> &[u8]
-    requires { ⌜ ((length (now memory) ≡ memorySize) × (i < rowsMost)) × (n ≡ length (rowEntry (now memory) i .key)) ⌝ }
-    ensures { λ r. ⌜ now r ≡ (rowEntry (now (memory .entry)) i .key ++ rowEntry (now (memory .entry)) i .originator) ++ valueAt
-        (now (memory .entry)) i .payload ⌝ }
-{
-    around(memory, i, n, payload_len(memory, i))
+    names::tagged(name_of(memory, i), memory[TAGS_AT + i])
 }
 
 pub fn key_of(memory: &[u8], i: usize) -> &[u8]
     requires { ⌜ (length (now memory) ≡ memorySize) × (i < rowsMost) ⌝ }
     ensures { λ r. ⌜ now r ≡ rowEntry (now (memory .entry)) i .key ⌝ }
 {
-    let n = key_len(memory, i);
-    octets::first(entry_of(memory, i, n), n)
+    let name = entry_of(memory, i);
+    octets::first(name, name.len() - ID)
 }
 
 pub fn originator_of(memory: &[u8], i: usize) -> &[u8]
     requires { ⌜ (length (now memory) ≡ memorySize) × (i < rowsMost) ⌝ }
     ensures { λ r. ⌜ now r ≡ rowEntry (now (memory .entry)) i .originator ⌝ }
 {
-    let n = key_len(memory, i);
-    octets::tail(entry_of(memory, i, n), n)
+    let name = entry_of(memory, i);
+    octets::tail(name, name.len() - ID)
 }
 
 pub fn payload_of(memory: &[u8], i: usize) -> &[u8]
     requires { ⌜ (length (now memory) ≡ memorySize) × (i < rowsMost) ⌝ }
-    ensures { λ r. ⌜ now r ≡ valueAt (now (memory .entry)) i .payload ⌝ }
+    ensures { λ r. ⌜ (now r ≡ valueAt (now (memory .entry)) i .payload) × (length (now r) ≤ 32) ⌝ }
 {
     let at = i * ROW_SIZE + NAME_PLACE + key_room(memory, i) + ID;
     octets::part_of(memory, at, payload_len(memory, i))
@@ -194,7 +156,7 @@ fn find_from(memory: &[u8], name: &[u8], t: u8, from: usize) -> Found
 }
 
 // The row of an entry: from the first row that has its tag on.
-pub fn find_named(memory: &[u8], name: &[u8]) -> Found
+pub fn find(memory: &[u8], name: &[u8]) -> Found
     requires { ⌜ (length (now memory) ≡ memorySize) × (4 < length (now name)) ⌝ }
     ensures { λ r. ⌜ r ≡ firstFrom (holds (entryNamed (now (name .entry)))) 0 (rowsIn (now (memory .entry))) ⌝ }
 {
@@ -214,13 +176,14 @@ pub fn free_row(memory: &[u8]) -> Found
     Found::Nothing
 }
 
-pub fn find(memory: &[u8], key: &[u8], originator: &[u8]) -> Found
-    requires { ⌜ (length (now memory) ≡ memorySize) × FitsKey (now key) (now originator) ⌝ }
-    ensures { λ r. ⌜ r ≡ firstFrom (holds (entry (now (key .entry)) (now (originator .entry)))) 0 (rowsIn (now (memory .entry))) ⌝ }
+pub fn has_free(memory: &[u8]) -> bool
+    requires { ⌜ length (now memory) ≡ memorySize ⌝ }
+    ensures { λ r. ⌜ r ≡ has isFree (rowsIn (now (memory .entry))) ⌝ }
 {
-    let n = names::of_entry(key, originator);
-    let octets = n.octets;
-    find_named(memory, octets::first(&octets, n.len))
+    match free_row(memory) {
+        Found::At(_) => true,
+        Found::Nothing => false,
+    }
 }
 
 // ---- the count

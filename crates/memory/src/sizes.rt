@@ -6,15 +6,21 @@ ghost use lib.ListN.{length};
 ghost use Rattle.laws.specs.Puts.{putAt};
 ghost use Rattle.protocol.specs.Fields.{field2, put2};
 
-// The size at a place; one over the most counts as the most.
-pub fn size_at(memory: &[u8], at: usize, most: usize) -> usize
-    ensures { λ r. ⌜ r ≡ min (field2 (now (memory .entry)) at) most ⌝ }
+// A size over the most counts as the most.
+pub fn at_most(n: usize, most: usize) -> usize
+    ensures { λ r. ⌜ (r ≡ min n most) × (r ≤ most) ⌝ }
 {
-    let n = octets::field2(memory, at) as usize;
     if n < most {
         return n;
     }
     most
+}
+
+// The size at a place.
+pub fn size_at(memory: &[u8], at: usize, most: usize) -> usize
+    ensures { λ r. ⌜ r ≡ min (field2 (now (memory .entry)) at) most ⌝ }
+{
+    at_most(octets::field2(memory, at) as usize, most)
 }
 
 pub fn put_size(memory: &mut [u8], at: usize, n: usize)

@@ -8,7 +8,7 @@ ghost use Rattle.rules.specs.Rows.{isPurged, toFree, sweptRow, swept};
 ghost use Rattle.rules.specs.Updates.{value};
 ghost use Rattle.memory.specs.Layout.{memorySize};
 ghost use Rattle.memory.specs.Memory.{entryNamed, isMarked, rowIn, rowsIn, memoryOf, withRows, freshMemory};
-ghost use Rattle.memory.specs.Search.{entry, FitsRow, rowHead, headPut, sectionsPut, withRow, revalued, Inserts, LastOrNone, FirstLast};
+ghost use Rattle.memory.specs.Search.{FitsNamed, rowHead, headPut, valuePut, sectionsPut, rowPut, withRow, revalued, Inserts, LastOrNone, FirstLast};
 use crate::layout::ID;
 use crate::layout::LENGTHS_AT;
 use crate::layout::MARKS_AT;
@@ -17,7 +17,6 @@ use crate::layout::ROW_SIZE;
 use crate::layout::ROWS;
 use crate::layout::TAGS_AT;
 use crate::layout::TOPS_AT;
-use crate::names;
 use crate::rows;
 use crate::rows::Found;
 use crate::tags;
@@ -69,6 +68,7 @@ pub fn put_value(
     requires { ⌜ ((length (now memory) ≡ memorySize) × (i < rowsMost)) × (length (now payload) ≤ payloadMost) ⌝ }
     ensures { λ _. ⌜ memoryOf (now (memory .exit)) ≡ withRow (now (memory .entry)) i (revalued (value number (now (payload .entry)) remaining)
         (isMarked marks) (rowIn (now (memory .entry)) i)) ⌝ }
+    ensures octets { λ _. ⌜ now (memory .exit) ≡ valuePut i number (now (payload .entry)) remaining marks (now (memory .entry)) ⌝ }
 {
     let at = i * ROW_SIZE + NAME_PLACE + rows::key_room(memory, i) + ID;
     put_head(
@@ -101,10 +101,10 @@ pub fn put_row(
     remaining: u16,
     marks: u8,
 )
-    requires { ⌜ ((length (now memory) ≡ memorySize) × (i < rowsMost)) × (((4 < length (now name)) × (length (now name) ≤ 20))
-        × (length (now payload) ≤ payloadMost)) ⌝ }
+    requires { ⌜ ((length (now memory) ≡ memorySize) × (i < rowsMost)) × FitsNamed (now name) (now payload) ⌝ }
     ensures { λ _. ⌜ memoryOf (now (memory .exit)) ≡ withRow (now (memory .entry)) i (used (entryNamed (now (name .entry)))
         (value number (now (payload .entry)) remaining) (isMarked marks)) ⌝ }
+    ensures octets { λ _. ⌜ now (memory .exit) ≡ rowPut i (now (name .entry)) number (now (payload .entry)) remaining marks (now (memory .entry)) ⌝ }
 {
     let tag = tags::tag_of(name);
     put_head(
@@ -123,30 +123,19 @@ pub fn put_row(
 // A new entry takes the lowest free row.
 pub fn insert(
     memory: &mut [u8],
-    key: &[u8],
-    originator: &[u8],
+    name: &[u8],
     number: CsaNumber,
     payload: &[u8],
     remaining: u16,
     marks: u8,
 ) -> Inserted
-    requires { ⌜ (length (now memory) ≡ memorySize) × FitsRow (now key) (now originator) (now payload) ⌝ }
-    ensures { λ r. ⌜ Inserts (used (entry (now (key .entry)) (now (originator .entry))) (value number (now (payload .entry)) remaining) (isMarked marks))
-        (now (memory .entry)) (now (memory .exit)) r ⌝ }
+    requires { ⌜ (length (now memory) ≡ memorySize) × FitsNamed (now name) (now payload) ⌝ }
+    ensures { λ r. ⌜ Inserts (used (entryNamed (now (name .entry))) (value number (now (payload .entry)) remaining) (isMarked marks)) (now (memory .entry))
+        (now (memory .exit)) r ⌝ }
 {
     match rows::free_row(memory) {
         Found::At(i) => {
-            let n = names::of_entry(key, originator);
-            let octets = n.octets;
-            put_row(
-                memory,
-                i,
-                octets::first(&octets, n.len),
-                number,
-                payload,
-                remaining,
-                marks,
-            );
+            put_row(memory, i, name, number, payload, remaining, marks);
             Inserted::Stored
         }
         Found::Nothing => Inserted::Full,

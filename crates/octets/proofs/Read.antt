@@ -2,11 +2,11 @@
 -- Assumes nothing.
 use Prim.Native.Nat.{ℕ, _+_, _-_, _*_, _≤_}
 use mathlib.Core.Path.{_≡_, sym, ap, _∙_}
-use mathlib.Core.List.{List, []}
+use mathlib.Core.List.{List, [], _++_, append-nil}
 use native.Mathlib.Nat.{add-zero}
 use native.Mathlib.Omega.{arith}
-use lib.ListN.{length, drop, drop-of-length-le, List·getD-eq-default}
-use lib.Seq.{getD-drop, take-all}
+use lib.ListN.{length, take, drop, drop-of-length-le, List·getD-eq-default}
+use lib.Seq.{getD-drop, take-all, take-length}
 use Rattle.laws.specs.Lists.{part}
 use Rattle.protocol.specs.Fields.{octet, field2, field4}
 
@@ -40,3 +40,7 @@ module _ (p : List ℕ) where
 
   pub part-past : (at n : ℕ) → length p ≤ at → [] ≡ part p at n
   part-past at n h = rw (drop-of-length-le p h) (sym (take-all n [] (omega arith)))
+
+-- octets copied over as many
+pub copied-all : (s d r : List ℕ) → r ≡ take (length s) s ++ drop (length s) d → length d ≤ length s → r ≡ s
+copied-all s d r e h = e ∙ (λ i. take-length s i ++ drop-of-length-le d h i) ∙ append-nil s

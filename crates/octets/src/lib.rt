@@ -61,6 +61,16 @@ pub fn part_of(p: &[u8], at: usize, n: usize) -> &[u8]
     &p[at..to]
 }
 
+// Four octets, by value.
+pub fn array4(p: &[u8]) -> [u8; 4]
+    requires { ⌜ length (now p) ≡ 4 ⌝ }
+    ensures { λ r. ⌜ r ≡ now (p .entry) ⌝ }
+{
+    let mut a = [0u8; 4];
+    bytes::copy(p, &mut a);
+    a
+}
+
 pub fn field2(p: &[u8], at: usize) -> u16
     ensures { λ r. ⌜ r ≡ fields.field2 (now (p .entry)) at ⌝ }
 {
@@ -111,6 +121,23 @@ pub fn put_first(out: &mut [u8], at: usize, src: &[u8], n: usize) -> usize
     ensures { λ r. ⌜ Put (take n (now (src .entry))) at (now (out .entry)) (now (out .exit)) r ⌝ }
 {
     put(out, at, first(src, n))
+}
+
+// Whether a is greater: the first octet that differs decides.
+pub fn greater(a: &[u8], b: &[u8]) -> bool
+    ensures { λ r. ⌜ r ≡ tables.greater (now (a .entry)) (now (b .entry)) ⌝ }
+{
+    let mut i: usize = 0;
+    while i < a.len() {
+        if b.len() <= i {
+            return true;
+        }
+        if a[i] != b[i] {
+            return b[i] < a[i];
+        }
+        i += 1;
+    }
+    false
 }
 
 // Whether two parts hold the same octets, compared where they lie.

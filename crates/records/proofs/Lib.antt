@@ -1,7 +1,7 @@
 pub mod MemoryLaws
 pub mod WalkLaws
+pub mod PutLaws
 pub mod StepLaws
-pub mod ListLaws
 pub mod HeldLaws
 pub mod AskedLaws
 pub mod SolicitedLaws

@@ -8,7 +8,7 @@ use lib.ListN.{length}
 use lib.Seq.{set-getD, getD-set-same, set-set}
 use Rattle.laws.proofs.TableLaws.{table-length}
 use Rattle.rules.specs.Server.{Row, Request}
-use Rattle.memory.specs.Memory.{rowsIn, requestsIn, Memory, memoryOf, withRows, withRequests, requestsOf}
+use Rattle.memory.specs.Memory.{rowsIn, requestsIn, Memory, memoryOf, withRows, requestsPut, requestsOf}
 
 -- a memory has eight request lists, and its rows are those of its octets
 pub lists-eight : (s : List ℕ) → length (memoryOf s .requests) ≡ 8
@@ -21,34 +21,24 @@ memory-rows s = refl
 
 -- ---- a list of requests
 module _ (m : Memory) (k : ℕ) where
-  pub requests-put : (qs : List Request) → length (m .requests) ≡ 8 → k < 8 → requestsOf (withRequests k qs m) k ≡ qs
+  pub requests-put : (qs : List Request) → length (m .requests) ≡ 8 → k < 8 → requestsOf (requestsPut k qs m) k ≡ qs
   requests-put qs n h = getD-set-same (m .requests) k qs [] (omega arith)
 
-  pub requests-same : withRequests k (requestsOf m k) m ≡ m
+  pub requests-same : requestsPut k (requestsOf m k) m ≡ m
   requests-same = ap (λ (l : List (List Request)). record { rows = m .rows; requests = l; kept = m .kept }) (set-getD (m .requests) k [])
 
-  pub requests-twice : (a b : List Request) → withRequests k a (withRequests k b m) ≡ withRequests k a m
+  pub requests-twice : (a b : List Request) → requestsPut k a (requestsPut k b m) ≡ requestsPut k a m
   requests-twice a b =
       ap (λ (l : List (List Request)). record { rows = m .rows; requests = l; kept = m .kept }) (set-set (m .requests) k b a)
-
--- ---- rows
-pub rows-same : (m : Memory) → withRows (m .rows) m ≡ m
-rows-same m = refl
-
-pub rows-twice : (m : Memory) (a b : List Row) → withRows a (withRows b m) ≡ withRows a m
-rows-twice m a b = refl
-
-pub rows-requests : (m : Memory) (k : ℕ) (rows : List Row) (qs : List Request) → withRequests k qs (withRows rows m) ≡ withRows rows (withRequests k qs m)
-rows-requests m k rows qs = refl
 
 -- ---- the octets of a memory that is another's with a part put
 module _ (s t : List ℕ) where
   pub rows-after : (m : Memory) → memoryOf t ≡ m → rowsIn t ≡ m .rows
   rows-after m e = sym (memory-rows t) ∙ ap (λ (x : Memory). x .rows) e
 
-  module _ (k : ℕ) (qs : List Request) (e : memoryOf t ≡ withRequests k qs (memoryOf s)) where
+  module _ (k : ℕ) (qs : List Request) (e : memoryOf t ≡ requestsPut k qs (memoryOf s)) where
     pub rows-stay : rowsIn t ≡ rowsIn s
-    rows-stay = rows-after (withRequests k qs (memoryOf s)) e ∙ memory-rows s
+    rows-stay = rows-after (requestsPut k qs (memoryOf s)) e ∙ memory-rows s
 
     pub requests-after : k < 8 → requestsOf (memoryOf t) k ≡ qs
     requests-after h = ap (λ (x : Memory). requestsOf x k) e ∙ requests-put (memoryOf s) k qs (lists-eight s) h
@@ -57,18 +47,15 @@ module _ (s t : List ℕ) where
     pub rows-are : rowsIn t ≡ rows
     rows-are = rows-after (withRows rows (memoryOf s)) e
 
-    pub requests-stay : (k : ℕ) → requestsOf (memoryOf t) k ≡ requestsOf (memoryOf s) k
-    requests-stay k = ap (λ (x : Memory). requestsOf x k) e
-
-  module _ (k : ℕ) (rows : List Row) (qs : List Request) (e : memoryOf t ≡ withRows rows (withRequests k qs (memoryOf s))) where
+  module _ (k : ℕ) (rows : List Row) (qs : List Request) (e : memoryOf t ≡ withRows rows (requestsPut k qs (memoryOf s))) where
     pub both-rows : rowsIn t ≡ rows
-    both-rows = rows-after (withRows rows (withRequests k qs (memoryOf s))) e
+    both-rows = rows-after (withRows rows (requestsPut k qs (memoryOf s))) e
 
     pub both-requests : k < 8 → requestsOf (memoryOf t) k ≡ qs
     both-requests h = ap (λ (x : Memory). requestsOf x k) e ∙ requests-put (memoryOf s) k qs (lists-eight s) h
 
     -- and once more
     pub both-twice : (rows′ : List Row) (qs′ : List Request)
-        → withRows rows′ (withRequests k qs′ (memoryOf t)) ≡ withRows rows′ (withRequests k qs′ (memoryOf s))
+        → withRows rows′ (requestsPut k qs′ (memoryOf t)) ≡ withRows rows′ (requestsPut k qs′ (memoryOf s))
     both-twice rows′ qs′ =
-        ap (λ (x : Memory). withRows rows′ (withRequests k qs′ x)) e ∙ ap (withRows rows′) (requests-twice (memoryOf s) k qs′ qs)
+        ap (λ (x : Memory). withRows rows′ (requestsPut k qs′ x)) e ∙ ap (withRows rows′) (requests-twice (memoryOf s) k qs′ qs)

@@ -1,104 +1,91 @@
 -- The answer to a CSUS: of one record, and of all before a cursor.
 -- Assumes nothing.
-use Prim.Native.Nat.{ℕ, zero, suc, _+_, _*_, _≤_, _<_}
-use mathlib.Core.Path.{_≡_, refl, sym, ap, _∙_, subst}
+use Prim.Native.Nat.{ℕ, _+_, _-_, _≤_, _<_}
+use mathlib.Core.Path.{_≡_, refl, sym, ap, _∙_}
+use mathlib.Core.Bool.{Bool, true, false}
 use mathlib.Core.List.{List, [], _∷_, _++_, append-nil, append-assoc}
 use native.Mathlib.Omega.{arith}
-use lib.ListN.{length}
-use Rattle.laws.specs.Lists.{All}
+use lib.ListN.{length, length-append}
+use Rattle.protocol.specs.Fields.{field2}
 use Rattle.protocol.specs.Messages.{CsaRecord}
-use Rattle.protocol.specs.Sizes.{idLength}
-use Rattle.protocol.specs.Reading.{recordsAt}
+use Rattle.protocol.specs.declared.CsaNumber.{CsaNumber}
+use Rattle.protocol.specs.Numbers.{newer}
 use Rattle.rules.specs.Server.{holds}
 use Rattle.rules.specs.Requests.{entryOf}
-use Rattle.rules.specs.Updates.{nullRecord, solicitedOf, solicited, allSolicited}
+use Rattle.rules.specs.Updates.{hopsMost, recordOf, nullRecord, solicitedOf, solicited, allSolicited}
 use Rattle.memory.specs.declared.rows.Found.the-variants.{At, Nothing}
-use Rattle.memory.specs.Memory.{rowsIn}
+use Rattle.memory.specs.Memory.{rowEntry, valueAt, rowsIn}
 use Rattle.memory.specs.Search.{firstFrom}
 use Rattle.memory.proofs.EntryLaws.{found-entry, none-entry}
-use Rattle.wire.specs.declared.record.Csa.{Csa}
 use Rattle.wire.specs.declared.record.Cursor.{Cursor}
-use Rattle.wire.specs.declared.record.NextRecord.{NextRecord}
-use Rattle.wire.specs.declared.record.NextRecord.the-variants.{Record, NoRecord}
-use Rattle.wire.specs.Views.{csaRecordOf, recordsOf, Steps}
-use Rattle.records.specs.Walks.{Fits, Walks, answerBy}
+use Rattle.wire.specs.Views.{recordsOf}
+use Rattle.records.specs.Walks.{Walks, Named, recordAt, answerBy}
+use Rattle.records.specs.Places.{Puts}
+use Rattle.records.proofs.WalkLaws.{cursor, Walking, walk-start, walk-end, walk-step, walk-on}
+use Rattle.records.proofs.PutLaws.{puts-none, puts-then, puts-as}
 
 -- ---- one record
-module _ (s : List ℕ) (r : CsaRecord) where
-  pub solicited-held : (i : ℕ) (v : CsaRecord) → firstFrom (holds (entryOf r)) 0 (rowsIn s) ≡ At i → v ≡ answerBy r s i → v ≡ solicited (rowsIn s) r
-  solicited-held i v at e = e ∙ sym (ap (solicitedOf r) (found-entry (entryOf r) s i at))
+module _ (s : List ℕ) (v : CsaRecord) where
+  module _ (name : List ℕ) (number held : CsaNumber) (q : Named v name number) (i : ℕ) (h : held ≡ valueAt s i .number) (b : Bool) (e : b ≡ newer number held) where
+    told : newer (v .number) (valueAt s i .number) ≡ b
+    told = sym (e ∙ (λ j. newer (q .number-is j) (h j)))
 
-  pub solicited-null : (v : CsaRecord) → firstFrom (holds (entryOf r)) 0 (rowsIn s) ≡ Nothing → v ≡ nullRecord r → v ≡ solicited (rowsIn s) r
-  solicited-null v none e = e ∙ sym (ap (solicitedOf r) (none-entry (entryOf r) s none))
+    pub answer-null : b ≡ true → nullRecord v ≡ answerBy v s i
+    answer-null t = rw (told ∙ t)
+
+    pub answer-held : b ≡ false → recordOf hopsMost (rowEntry s i) (valueAt s i) ≡ answerBy v s i
+    answer-held t = rw (told ∙ t)
+
+  pub solicited-held : (i : ℕ) → firstFrom (holds (entryOf v)) 0 (rowsIn s) ≡ At i → answerBy v s i ≡ solicited (rowsIn s) v
+  solicited-held i at = sym (ap (solicitedOf v) (found-entry (entryOf v) s i at))
+
+  pub solicited-null : firstFrom (holds (entryOf v)) 0 (rowsIn s) ≡ Nothing → nullRecord v ≡ solicited (rowsIn s) v
+  solicited-null none = sym (ap (solicitedOf v) (none-entry (entryOf v) s none))
 
 -- ---- the records before a cursor
-records-length : (p : List ℕ) (n at : ℕ) → length (recordsAt idLength p n at) ≡ n
-unfolding recordsAt
-records-length p zero at = refl
-records-length p (suc n) at = ap suc (records-length p n _)
+module _ (s p : List ℕ) (c : Cursor) (out₀ : List ℕ) where
+  abbrev all : List CsaRecord
+  all = allSolicited (rowsIn s) (recordsOf p c)
 
-module _ (p : List ℕ) where
-  -- n records are made of those before, and these are left
-  pub record Walking (c : Cursor) (n : ℕ) : Type 0 where
-    pub few : n + c .left ≤ 4
-    pub reach : c .at + c .left * 65535 ≤ 1048576
-    pub fits : All Fits (recordsOf p c)
+  -- all answers are those put and those to the records that are left
+  pub record Soliciting (out : List ℕ) (at left to : ℕ) : Type 0 where
+    pub long : length out ≡ length out₀
+    pub walks : Walking p at left
+    pub done : List CsaRecord
+    pub few : length done + left ≤ 4
+    pub going : all ≡ done ++ allSolicited (rowsIn s) (recordsOf p (cursor at left))
+    pub puts : Puts 64 done 28 out₀ out to
 
-  pub walking-start : (c : Cursor) (n : ℕ) → n ≡ 0 → Walks p c → Walking c n
-  walking-start c n z w =
-      let f = w .few in
-      record { few = omega arith; reach = w .reach; fits = w .fits }
+  pub soliciting-none : Walks p c → Soliciting out₀ (c .at) (c .left) 28
+  soliciting-none w = record { long = refl; walks = walk-start p c w; done = []; few = let f = w .few in omega arith; going = refl; puts = puts-none 64 28 out₀ }
 
-  module _ (c : Cursor) (n : ℕ) (w : Walking c n) where
-    pub walking-near : c .at ≤ 1048576
-    walking-near = let r = w .reach in omega arith
+  module _ (out : List ℕ) (at left to : ℕ) (x : Soliciting out at left to) where
+    pub soliciting-all : left ≤ 0 → Puts 64 (allSolicited (rowsIn s) (recordsOf p c)) 28 out₀ out to
+    soliciting-all h =
+        let e : all ≡ x .done = x .going ∙ ap (λ (l : List CsaRecord). x .done ++ allSolicited (rowsIn s) l) (walk-end p at left h) ∙ append-nil (x .done) in
+        puts-as 64 28 out₀ out to (sym e) (x .puts)
 
-    module _ (x : NextRecord) (v : Csa) (d : Cursor) (is : x ≡ Record v d) (steps : Steps p c x) where
-      step : Steps p c (Record v d)
-      step = subst (Steps p c) is steps
+    module _ (some : 0 < left) (room : 284 ≤ length out₀) where
+      pub soliciting-room : to + 64 ≤ length out
+      soliciting-room = let n = x .puts .near in let f = x .few in let l = x .long in omega arith
 
-      all-fit : All Fits (csaRecordOf p v ∷ recordsOf p d)
-      all-fit = subst (All Fits) (sym (step .records)) (w .fits)
-
-      fewer : suc (d .left) ≡ c .left
-      fewer =
-          let a = ap length (step .records) in
-          ap suc (sym (records-length p (d .left) (d .at))) ∙ a ∙ records-length p (c .left) (c .at)
-
-      pub walking-fits : Fits (csaRecordOf p v)
-      walking-fits = all-fit .0
-
-      pub walking-room : n < 4
-      walking-room = let e = fewer in let f = w .few in omega arith
-
-      pub walking-less : d .left < c .left
-      walking-less = let e = fewer in omega arith
-
-      pub walking-more : (m : ℕ) → m ≡ n + 1 → Walking d m
-      walking-more m g =
-          let e = fewer in
-          let f = w .few in
-          let r = w .reach in
-          let near : d .at ≤ c .at + 65535 = step .near in
-          record { few = omega arith; reach = omega arith; fits = all-fit .1 }
-
-module _ (s p : List ℕ) (all : List CsaRecord) where
-  -- all that is asked for is answered by what is done and the answers to the records before the cursor
-  abbrev pub Soliciting : Cursor → List CsaRecord → Type 0
-  Soliciting c done = allSolicited (rowsIn s) all ≡ done ++ allSolicited (rowsIn s) (recordsOf p c)
-
-  pub soliciting-more : (c d : Cursor) (y : NextRecord) (v : Csa) (done after : List CsaRecord) (x : CsaRecord) → y ≡ Record v d → Steps p c y
-      → Soliciting c done → x ≡ solicited (rowsIn s) (csaRecordOf p v) → after ≡ done ++ (x ∷ []) → Soliciting d after
-  soliciting-more c d y v done after x is steps a e f =
-      let step : Steps p c (Record v d) = subst (Steps p c) is steps in
-      let rest : List CsaRecord = allSolicited (rowsIn s) (recordsOf p d) in
-      a ∙ ap (λ (l : List CsaRecord). done ++ allSolicited (rowsIn s) l) (sym (step .records))
-      ∙ ap (λ (y : CsaRecord). done ++ (y ∷ rest)) (sym e)
-      ∙ sym (append-assoc done (x ∷ []) rest)
-      ∙ ap (λ (l : List CsaRecord). l ++ rest) (sym f)
-
-  pub soliciting-all : (c : Cursor) (y : NextRecord) (done : List CsaRecord) → y ≡ NoRecord → Steps p c y → Soliciting c done
-      → done ≡ allSolicited (rowsIn s) all
-  soliciting-all c y done is steps a =
-      let step : Steps p c NoRecord = subst (Steps p c) is steps in
-      sym (a ∙ ap (λ (l : List CsaRecord). done ++ allSolicited (rowsIn s) l) (sym (step .records)) ∙ append-nil done)
+      pub soliciting-more : (out′ : List ℕ) (n size : ℕ) → length out′ ≡ length out → Puts 64 (solicited (rowsIn s) (recordAt p at) ∷ []) to out out′ n
+          → (size ≡ field2 p (at + 2)) × (size ≤ 65535) → Soliciting out′ (at + size) (left - 1) n
+      soliciting-more out′ n size kept one e =
+          let v : CsaRecord = solicited (rowsIn s) (recordAt p at) in
+          let f = x .few in
+          let near = soliciting-room in
+          let l = x .long in
+          let rest : List CsaRecord = allSolicited (rowsIn s) (recordsOf p (cursor (at + size) (left - 1))) in
+          let more : length (x .done ++ (v ∷ [])) ≡ length (x .done) + 1 = length-append (x .done) (v ∷ []) in
+          record {
+            long = kept ∙ l;
+            walks = walk-on p at left (x .walks) some size e;
+            done = x .done ++ (v ∷ []);
+            few = omega arith;
+            going =
+                x .going
+                ∙ ap (λ (l : List CsaRecord). x .done ++ allSolicited (rowsIn s) l) (walk-step p at left (x .walks) some size e)
+                ∙ sym (append-assoc (x .done) (v ∷ []) rest);
+            puts = puts-then 64 28 out₀ (x .done) (v ∷ []) out out′ to n (omega arith) (x .puts) one;
+          }

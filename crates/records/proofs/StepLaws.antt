@@ -1,23 +1,20 @@
 -- Summaries and replies, record after record: what one leaves and then the rest is what all leave.
 -- Assumes nothing.
 use Prim.Native.Nat.{ℕ, _<_}
-use mathlib.Core.Path.{_≡_, refl, sym, ap, _∙_}
+use mathlib.Core.Path.{_≡_, refl, sym, ap, _∙_, subst}
 use mathlib.Core.List.{List, [], _∷_}
 use Rattle.laws.specs.Tables.{change}
 use Rattle.protocol.specs.Messages.{CsaRecord}
 use Rattle.rules.specs.Server.{Row, Entry, holds}
 use Rattle.rules.specs.Requests.{entryOf, Wanted, takenIn, allTakenIn}
 use Rattle.rules.specs.Updates.{replied, allReplied}
-use Rattle.memory.specs.Memory.{rowsIn, memoryOf, withRows, withRequests}
-use Rattle.memory.specs.Search.{entry}
+use Rattle.memory.specs.Memory.{entryNamed, rowsIn, memoryOf, withRows, requestsPut}
 use Rattle.memory.specs.Lists.{wantedNow, TakesIn}
 use Rattle.memory.specs.Entries.{rowsAs}
-use Rattle.records.specs.Walks.{wantedBy, TakesAll, TakesOne}
+use Rattle.protocol.specs.declared.CsaNumber.{CsaNumber}
+use Rattle.records.specs.Walks.{Named, wantedBy, TakesAll, TakesOne}
+use Rattle.records.proofs.WalkLaws.{named-of}
 use Rattle.records.proofs.MemoryLaws.{memory-rows, requests-same, requests-twice, rows-stay, requests-after, rows-are}
-
--- the entry of a record by its parts
-pub entry-by : (v : CsaRecord) (key originator : List ℕ) → key ≡ v .key → originator ≡ v .originator → entry key originator ≡ entryOf v
-entry-by v key originator a b = λ i. entry (a i) (b i)
 
 -- ---- summaries
 module _ (k : ℕ) where
@@ -28,8 +25,11 @@ module _ (k : ℕ) where
   takes-end s n rs e = rw e (takes-none s n)
 
   module _ (v : CsaRecord) (n : ℕ) (s t : List ℕ) (m : ℕ) where
-    pub takes-one : (e : Entry) → e ≡ entryOf v → TakesIn k e (v .number) n s t m → TakesOne k v n s t m
-    takes-one e q h = let g : TakesIn k (entryOf v) (v .number) n s t m = rw q at h in record { list = g .list; count = g .count }
+    pub takes-one : (name : List ℕ) (number : CsaNumber) → Named v name number → TakesIn k (entryNamed name) number n s t m → TakesOne k v n s t m
+    takes-one name number q h =
+        let e = named-of v name number q in
+        let g = subst (λ (x : Entry × CsaNumber). TakesIn k (x .0) (x .1) n s t m) (λ i. (e i, q .number-is i)) h in
+        record { list = g .list; count = g .count }
 
     module _ (h : k < 8) (one : TakesOne k v n s t m) where
       now-wanted : wantedNow k m t ≡ takenIn (rowsIn s) v (wantedNow k n s)
@@ -45,7 +45,7 @@ module _ (k : ℕ) where
       takes-both : (rs : List CsaRecord) (u : List ℕ) (r : ℕ) → TakesAll k rs m t u r → TakesAll k (v ∷ rs) n s u r
       takes-both rs u r rest = record {
         list =
-            rest .list ∙ (λ i. withRequests k (all-wanted rs i .requests) (one .list i))
+            rest .list ∙ (λ i. requestsPut k (all-wanted rs i .requests) (one .list i))
             ∙ requests-twice (memoryOf s) k (wantedBy k (v ∷ rs) n s .requests) (takenIn (rowsIn s) v (wantedNow k n s) .requests);
         count = rest .count ∙ ap (λ (w : Wanted). w .missed) (all-wanted rs);
       }
@@ -59,9 +59,9 @@ module _ (k : ℕ) where
   replies-end s rs e = rw e (ap (λ (rows : List Row). withRows rows (memoryOf s)) (memory-rows s))
 
   module _ (v : CsaRecord) (s t : List ℕ) where
-    pub replies-one : (e : Entry) → e ≡ entryOf v → memoryOf t ≡ rowsAs (change (holds e) (replied k (v .number))) s
-        → memoryOf t ≡ rowsAs (change (holds (entryOf v)) (replied k (v .number))) s
-    replies-one e q h = h ∙ ap (λ (f : Entry). rowsAs (change (holds f) (replied k (v .number))) s) q
+    pub replies-one : (name : List ℕ) (number : CsaNumber) → Named v name number
+        → memoryOf t ≡ rowsAs (change (holds (entryNamed name)) (replied k number)) s → memoryOf t ≡ rowsAs (change (holds (entryOf v)) (replied k (v .number))) s
+    replies-one name number q h = h ∙ (λ i. rowsAs (change (holds (named-of v name number q i)) (replied k (q .number-is i))) s)
 
     module _ (one : memoryOf t ≡ rowsAs (change (holds (entryOf v)) (replied k (v .number))) s) where
       pub replies-then : (all rs : List CsaRecord) → all ≡ v ∷ rs → (u : List ℕ) → memoryOf u ≡ rowsAs (allReplied k rs) t → memoryOf u ≡ rowsAs (allReplied k all) s

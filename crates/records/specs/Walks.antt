@@ -3,34 +3,26 @@
 use Prim.Native.Nat.{ℕ, _+_, _*_, _≤_}
 use mathlib.Core.Path.{_≡_}
 use mathlib.Core.Bool.{Bool}
-use mathlib.Core.List.{List, [], _∷_}
+use mathlib.Core.List.{List, [], _∷_, _++_}
 use Rattle.laws.specs.Lists.{All}
 use Rattle.laws.specs.Choice.{pick}
 use Rattle.protocol.specs.declared.CsaNumber.{CsaNumber}
 use Rattle.protocol.specs.Numbers.{newer}
 use Rattle.protocol.specs.Messages.{CsaRecord}
+use Rattle.protocol.specs.Sizes.{idLength}
+use Rattle.protocol.specs.Reading as reading
 use Rattle.rules.specs.Requests.{Wanted, allTakenIn}
 use Rattle.rules.specs.Updates as rules
-use Rattle.rules.specs.Updates.{hopsMost, recordOf, nullRecord, Updated, allUpdated}
-use Rattle.memory.specs.Memory.{rowEntry, valueAt, rowsIn, memoryOf, withRows, withRequests, requestsOf}
+use Rattle.rules.specs.Updates.{hopsMost, recordOf, nullRecord, updateRule, rowsBy, requestsBy, Updated, allUpdated}
+use Rattle.memory.specs.Memory.{rowEntry, valueAt, rowsIn, memoryOf, withRows, requestsPut, requestsOf}
 use Rattle.memory.specs.Search.{FitsRow}
 use Rattle.memory.specs.Lists.{wantedNow}
 use Rattle.wire.specs.declared.record.Cursor.{Cursor}
 use Rattle.wire.specs.Views.{recordsOf}
-use Rattle.writer.specs.declared.write.Records.{Records}
-use Rattle.writer.specs.Write as writer
+use Rattle.records.specs.declared.put.Placed.{Placed}
 use Rattle.records.specs.declared.standing.UpdateRule.{UpdateRule}
 use Rattle.records.specs.declared.standing.UpdateRule.the-variants.{Null, PurgeAbsent, Full, Stored, Equal, Older}
-
-abbrev pub csa : ℕ → Bool → CsaNumber → List ℕ → List ℕ → List ℕ → CsaRecord
-csa hops null number key originator payload = record {
-  hops = hops;
-  null = null;
-  number = number;
-  key = key;
-  originator = originator;
-  payload = payload;
-}
+use Rattle.records.specs.Places.{Adds, replyOf}
 
 -- a record that a row has room for
 abbrev pub Fits : CsaRecord → Type 0
@@ -42,13 +34,28 @@ pub record Walks (p : List ℕ) (c : Cursor) : Type 0 where
   pub reach : c .at + c .left * 65535 ≤ 1048576
   pub fits : All Fits (recordsOf p c)
 
+-- ---- one record
+-- the record at r
+abbrev pub recordAt : List ℕ → ℕ → CsaRecord
+recordAt p r = reading.recordAt idLength p r
+
+-- a record at r, in reach, that fits a row
+abbrev pub FitsAt : List ℕ → ℕ → Type 0
+FitsAt p r = (r ≤ 1048576) × Fits (recordAt p r)
+
+-- name and number of a record that fits a row
+pub record Named (v : CsaRecord) (name : List ℕ) (number : CsaNumber) : Type 0 where
+  pub fits : Fits v
+  pub name-is : name ≡ v .key ++ v .originator
+  pub number-is : number ≡ v .number
+
 -- ---- summaries
 abbrev pub wantedBy : ℕ → List CsaRecord → ℕ → List ℕ → Wanted
 wantedBy k rs missed s = allTakenIn (rowsIn s) rs (wantedNow k missed s)
 
 -- slot k's list after some summaries, of the memory and of the missed that is answered
 pub record TakesAll (k : ℕ) (rs : List CsaRecord) (missed : ℕ) (before after : List ℕ) (r : ℕ) : Type 0 where
-  pub list : memoryOf after ≡ withRequests k (wantedBy k rs missed before .requests) (memoryOf before)
+  pub list : memoryOf after ≡ requestsPut k (wantedBy k rs missed before .requests) (memoryOf before)
   pub count : r ≡ wantedBy k rs missed before .missed
 
 abbrev pub TakesOne : ℕ → CsaRecord → ℕ → List ℕ → List ℕ → ℕ → Type 0
@@ -63,26 +70,31 @@ answerBy r s i =
 
 -- ---- update records
 -- the rule of each case
-abbrev pub ruleOf : UpdateRule → rules.UpdateRule
-ruleOf Null = rules.null
-ruleOf PurgeAbsent = rules.purgeAbsent
-ruleOf Full = rules.full
-ruleOf Stored = rules.stored
-ruleOf Equal = rules.equal
-ruleOf Older = rules.older
+abbrev pub updateRuleOf : UpdateRule → rules.UpdateRule
+updateRuleOf Null = rules.null
+updateRuleOf PurgeAbsent = rules.purgeAbsent
+updateRuleOf Full = rules.full
+updateRuleOf Stored = rules.stored
+updateRuleOf Equal = rules.equal
+updateRuleOf Older = rules.older
 
 -- the rows, slot k's requests and the acknowledged records
 abbrev pub updatedNow : ℕ → List CsaRecord → List ℕ → Updated
 updatedNow k replies s = record { rows = rowsIn s; requests = requestsOf (memoryOf s) k; replies = replies }
 
--- the memory and the acknowledged records after some update records from slot k
-pub record Updates (live : ℕ → Bool) (k : ℕ) (rs : List CsaRecord) (r : Records) (before after : List ℕ) (x : Records) : Type 0 where
-  pub memory : memoryOf after ≡ withRows (allUpdated live k rs (updatedNow k (writer.recordsOf r) before) .rows)
-      (withRequests k (allUpdated live k rs (updatedNow k (writer.recordsOf r) before) .requests) (memoryOf before))
-  pub replies : writer.recordsOf x ≡ allUpdated live k rs (updatedNow k (writer.recordsOf r) before) .replies
-  pub few : x .count ≤ r .count + 1
+-- the memory after an update record from slot k, and the rule that it took
+pub record UpdatesOne (live : ℕ → Bool) (k : ℕ) (v : CsaRecord) (before after : List ℕ) (u : rules.UpdateRule) : Type 0 where
+  pub rule : u ≡ updateRule v (rowsIn before)
+  pub memory : memoryOf after ≡ withRows (rowsBy u live k v (rowsIn before)) (requestsPut k (requestsBy u v (requestsOf (memoryOf before) k)) (memoryOf before))
 
-pub record UpdatesAll (live : ℕ → Bool) (k : ℕ) (rs : List CsaRecord) (before after : List ℕ) (x : Records) : Type 0 where
-  pub memory : memoryOf after ≡ withRows (allUpdated live k rs (updatedNow k [] before) .rows)
-      (withRequests k (allUpdated live k rs (updatedNow k [] before) .requests) (memoryOf before))
-  pub replies : writer.recordsOf x ≡ allUpdated live k rs (updatedNow k [] before) .replies
+-- the memory after it, and its summary put if it is acknowledged
+pub record Updates (live : ℕ → Bool) (k : ℕ) (v : CsaRecord) (before after out out′ : List ℕ) (to x : Placed) : Type 0 where
+  pub memory : memoryOf after ≡ withRows (rowsBy (updateRule v (rowsIn before)) live k v (rowsIn before))
+      (requestsPut k (requestsBy (updateRule v (rowsIn before)) v (requestsOf (memoryOf before) k)) (memoryOf before))
+  pub reply : Adds 32 (replyOf (updateRule v (rowsIn before)) v) to out out′ x
+
+-- the memory after some update records from slot k
+abbrev pub UpdatesAll : (ℕ → Bool) → ℕ → List CsaRecord → List ℕ → List ℕ → Type 0
+UpdatesAll live k rs before after =
+    memoryOf after ≡ withRows (allUpdated live k rs (updatedNow k [] before) .rows)
+    (requestsPut k (allUpdated live k rs (updatedNow k [] before) .requests) (memoryOf before))

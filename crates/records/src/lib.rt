@@ -1,7 +1,7 @@
-// Records between packets and the memory: what those of a packet do to it, and those of our packets made from it.
+// Records between packets and the memory: what those of a packet do to it, and those of our packets put where they are written.
 pub mod asked;
 pub mod held;
-pub mod list;
+pub mod put;
 pub mod replies;
 pub mod solicited;
 pub mod standing;

@@ -9,26 +9,19 @@ ghost use Rattle.rules.specs.Updates.{replied, allReplied};
 ghost use Rattle.memory.specs.Layout.{memorySize};
 ghost use Rattle.memory.specs.Memory.{memoryOf};
 ghost use Rattle.memory.specs.Entries.{rowsAs};
-ghost use Rattle.wire.specs.Views.{csaRecordOf, recordsOf};
-ghost use Rattle.records.specs.Walks.{Fits, Walks};
+ghost use Rattle.wire.specs.Views.{recordsOf};
+ghost use Rattle.records.specs.Walks.{Walks, FitsAt, recordAt};
 use memory::entries;
 use wire::record;
-use wire::record::Csa;
 use wire::record::Cursor;
-use wire::record::NextRecord;
 
-fn reply_one(memory: &mut [u8], k: usize, p: &[u8], v: Csa)
-    requires { ⌜ (length (now memory) ≡ memorySize) × ((k < 8) × Fits (csaRecordOf (now p) v)) ⌝ }
-    ensures { λ _. ⌜ memoryOf (now (memory .exit)) ≡ rowsAs (change (holds (entryOf (csaRecordOf (now (p .entry)) v))) (replied k (v .number)))
-        (now (memory .entry)) ⌝ }
+// The record at r.
+fn reply_one(memory: &mut [u8], k: usize, p: &[u8], r: usize)
+    requires { ⌜ (length (now memory) ≡ memorySize) × ((k < 8) × FitsAt (now p) r) ⌝ }
+    ensures { λ _. ⌜ memoryOf (now (memory .exit)) ≡ rowsAs (change (holds (entryOf (recordAt (now (p .entry)) r)))
+        (replied k (recordAt (now (p .entry)) r .number))) (now (memory .entry)) ⌝ }
 {
-    entries::reply_record(
-        memory,
-        k,
-        record::key(p, v),
-        record::originator(p, v),
-        v.number,
-    )
+    entries::reply_record(memory, k, record::name(p, r), record::number(p, r))
 }
 
 // The records that the cursor has before it: rows that they are of wait for slot k no more, if the number is the one held.
@@ -36,14 +29,11 @@ pub fn reply_all(memory: &mut [u8], k: usize, p: &[u8], c: Cursor)
     requires { ⌜ (length (now memory) ≡ memorySize) × ((k < 8) × Walks (now p) c) ⌝ }
     ensures { λ _. ⌜ memoryOf (now (memory .exit)) ≡ rowsAs (allReplied k (recordsOf (now (p .entry)) c)) (now (memory .entry)) ⌝ }
 {
-    let mut at = c;
-    loop {
-        match at.record(p) {
-            NextRecord::NoRecord => return,
-            NextRecord::Record(v, next) => {
-                reply_one(memory, k, p, v);
-                at = next;
-            }
-        }
+    let mut at = c.at;
+    let mut left = c.left;
+    while left > 0 {
+        reply_one(memory, k, p, at);
+        at += record::size(p, at);
+        left -= 1;
     }
 }

@@ -13,7 +13,7 @@ fn print(text: &[u8; 20480], n: usize) {
 fn rest(
     s: Server,
     slots: &mut [usize; 192],
-    memory: &mut [u8; 20992],
+    memory: &mut [u8; 21504],
     input: &mut [u8],
     text: &mut [u8; 20480],
 ) {
@@ -44,7 +44,7 @@ fn rest(
 
 fn main() {
     let mut slots = [0usize; 192];
-    let mut memory = [0u8; 20992];
+    let mut memory = [0u8; 21504];
     let mut text = [0u8; 20480];
     let mut input = [0u8; 292];
     let n = io::read_full(0, &mut input);

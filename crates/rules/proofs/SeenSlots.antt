@@ -23,8 +23,9 @@ use Rattle.protocol.specs.Numbers.{nextCa}
 use Rattle.protocol.specs.Hello.{stale}
 use Rattle.protocol.specs.Messages.{CsaRecord, Message, ca, csuRequest, csuReply, hello}
 use Rattle.protocol.specs.Layouts.{bit, mandatory, layout, packetOf}
+use Rattle.laws.specs.Tables.{greater}
 use Rattle.rules.specs.Server.{Settings, Row, Slot}
-use Rattle.rules.specs.Links.{isDown, isBidirectional, hearsPeer, enters, recorded, withHello, toOther, negotiating, upMove, helloMove, checkMove, CaIn, sameHead, fromSlave, CaRule, refuseCa, becomeSlave, becomeMaster, repeat, slaveOn, masterOn, masterDone, ignore, restart, pastRule, ruleIn, caMove, greater}
+use Rattle.rules.specs.Links.{isDown, isBidirectional, hearsPeer, enters, recorded, withHello, toOther, negotiating, upMove, helloMove, checkMove, CaIn, sameHead, fromSlave, CaRule, refuseCa, becomeSlave, becomeMaster, repeat, slaveOn, masterOn, masterDone, ignore, restart, pastRule, ruleIn, caMove}
 use Rattle.rules.specs.Slots.{toPeer, withKept, withLink, emptied, moved, completed}
 use Rattle.rules.specs.Sent.{Sent, nothing, newPacket as sentPacket, octetsOf}
 use Rattle.rules.specs.Alignment.{CaPacket, ruleFor, answerMore, answering, taking, caSentBy, caSlot}

@@ -2,9 +2,10 @@
 -- Assumes nothing.
 use Prim.Native.Nat.{ℕ}
 use mathlib.Core.Bool.{Bool, true, false, not, _&&_, _||_}
-use mathlib.Core.List.{List, [], _∷_}
-use lib.Dec.{eqb, ltb}
+use mathlib.Core.List.{List}
+use lib.Dec.{eqb}
 use Rattle.laws.specs.Choice.{pick}
+use Rattle.laws.specs.Tables.{greater}
 use Rattle.protocol.specs.declared.CaNumber.{CaNumber}
 use Rattle.protocol.specs.declared.CaHead.{CaHead}
 use Rattle.protocol.specs.declared.Role.{Role}
@@ -174,13 +175,6 @@ sameHead a b =
     && (sameBit (a .flags .master) (b .flags .master)
     && (sameBit (a .flags .initial) (b .flags .initial) && sameBit (a .flags .more) (b .flags .more)))
 
--- 'greater than ours as octets': the first octet that differs decides
-abbrev pub greater : List ℕ → List ℕ → Bool
-greater [] [] = false
-greater [] (y ∷ ys) = false
-greater (x ∷ xs) [] = true
-greater (x ∷ xs) (y ∷ ys) = pick (eqb x y) (greater xs ys) (ltb y x)
-
 -- 'M, I clear and number ours'
 abbrev pub fromSlave : CaHead → CaNumber → Bool
 fromSlave h n = not (h .flags .master) && (not (h .flags .initial) && eqb (h .number .0) (n .0))
@@ -197,7 +191,7 @@ pub data CaRule : Type 0 where
   ignore : CaRule
   restart : CaRule
 
--- 'CA in Negotiate'
+-- 'CA in Negotiate'; an ID is 'greater than ours as octets'
 abbrev pub negotiateRule : List ℕ → CaIn → Link → CaRule
 negotiateRule id c l =
     pick ((c .head .flags .master && (c .head .flags .initial && c .head .flags .more)) && (c .empty && greater (c .sender) id)) becomeSlave
@@ -215,7 +209,8 @@ masterRule c l =
     pick (fromSlave (c .head) (l .number)) (pick (c .head .flags .more || l .more) masterOn masterDone)
     (pick (fromSlave (record { number = nextCa (c .head .number); flags = c .head .flags }) (l .number)) ignore restart)
 
--- 'CA in Update or Aligned'; `kept`: there is a kept CA
+-- 'CA in Update or Aligned: the slave repeats a kept CA for its duplicate; at the master M, I clear with its number has no effect; anything
+-- else: Negotiate'; `kept`: there is a kept CA
 abbrev pub pastRule : CaIn → Bool → Link → Role → CaRule
 pastRule c kept l Slave = pick (kept && sameHead (c .head) (l .last)) repeat restart
 pastRule c kept l Master = pick (fromSlave (c .head) (l .number)) ignore restart

@@ -3,32 +3,38 @@
 use Prim.Native.Nat.{ℕ}
 use mathlib.Core.Path.{_≡_, refl, sym, ap, subst}
 use mathlib.Core.Bool.{Bool, true, false}
-use mathlib.Core.List.{List, []}
+use mathlib.Core.List.{List}
 use Rattle.protocol.specs.declared.Alignment.{Alignment}
 use Rattle.protocol.specs.declared.Alignment.the-variants.{Down, Negotiate, Summarize, Update, Aligned}
 use Rattle.protocol.specs.declared.Kind.the-variants.{Ca, CsuRequest, CsuReply, Csus, Hello}
 use Rattle.protocol.specs.declared.Link.{Link}
 use Rattle.protocol.specs.Fields.{field2}
-use Rattle.protocol.specs.Messages.{CsaRecord, Message, Body, ca, csuRequest, csuReply, csus, hello}
+use Rattle.laws.specs.Tables.{on}
+use Rattle.protocol.specs.Messages.{Message, Body}
 use Rattle.rules.specs.Server as rules
 use Rattle.rules.specs.Server.{Row}
 use Rattle.rules.specs.Links as links
 use Rattle.rules.specs.Links.{enters, helloMove}
 use Rattle.rules.specs.Rows.{clearedIf}
-use Rattle.rules.specs.Slots.{alignedIf, moved, withKept}
+use Rattle.rules.specs.Slots.{alignedIf, moved}
 use Rattle.rules.specs.Sent.{octetsOf}
-use Rattle.rules.specs.Alignment.{ruleFor}
-use Rattle.rules.specs.Updates.{allReplied, allSolicited}
-use Rattle.rules.specs.Packets.{namesUs, unlessEmpty, slotOn, rowsOn, sentOn}
+use Rattle.rules.specs.Alignment.{ruleFor, caSlot, caSentBy}
+use Rattle.rules.specs.Events.{liveIn}
+use Rattle.rules.specs.Updates.{allReplied}
+use Rattle.rules.specs.Packets.{namesUs, slotOn, rowsOn, sentOn}
 use Rattle.rules.proofs.PastLaws.{enters-same, moved-link}
-use Rattle.memory.specs.Memory.{rowsIn}
+use Rattle.memory.specs.Memory.{isMarked, rowsIn, memoryOf}
+use Rattle.memory.specs.Entries.{rowsAs}
 use Rattle.wire.specs.declared.read.Head.{Head}
 use Rattle.wire.specs.Views.{recordsOf, receiversOf, messageOf}
 use Rattle.slots.specs.declared.state.Slot.{Slot}
 use Rattle.actions.specs.declared.parts.Acted.{Acted}
-use Rattle.actions.specs.Parts.{slotWith, Leaves, Moves, Wrote, Acts}
-use Rattle.actions.specs.Steps.{caPacketAt, TakesCa, TakesRequest}
-use Rattle.actions.proofs.PartLaws.{leaves-as, wrote-none}
+use Rattle.actions.specs.Parts.{slotWith, slotNow, Leaves, Moves, MovesAt, Acts, ActsAt}
+use Rattle.actions.specs.Steps.{caPacketAt, TakesCa, TakesRequest, TakesCsus}
+use Rattle.actions.proofs.PartLaws.{leaves-as, leaves-rows, wrote-none}
+use Rattle.actions.proofs.MoveLaws.{put-at, put-others}
+use Rattle.table.specs.Words.{slotIn}
+use Rattle.server.specs.State.{slotsOf}
 use Rattle.server.specs.Events.{ActsOn}
 use Rattle.server.proofs.ReadLaws.{body-is}
 
@@ -54,66 +60,73 @@ moves-rows k l x before after r t =
     (ap (λ (m : Link). clearedIf (enters (x .link .alignment) (m .alignment)) k (rowsIn before)) (sym (moved-link l (slotWith x k before))))
 
 -- ---- by the type
-abbrev ActsBy : Body → Message → (ℕ → Bool) → ℕ → ℕ → rules.Settings → Slot → List ℕ → List ℕ → List ℕ → List ℕ → Acted → Type 0
-ActsBy b m live k now s x before after out out′ r =
-    let y = slotOn b s live k now (rowsIn before) m (slotWith x k before) in
-    Acts k y (clearedIf (enters (x .link .alignment) (y .link .alignment)) k (rowsOn b live k (rowsIn before)))
-    (octetsOf (sentOn b s live k (rowsIn before) m (slotWith x k before))) before after out out′ r
+abbrev ActsBy : Body → Message → (ℕ → Bool) → ℕ → ℕ → rules.Settings → List ℕ → List ℕ → List ℕ → List ℕ → List ℕ → List ℕ → ℕ → Type 0
+ActsBy b m live k now s t t′ before after out out′ n =
+    let x = slotNow t k before in
+    let y = slotOn b s live k now (rowsIn before) m x in
+    ActsAt k y (clearedIf (enters (x .link .alignment) (y .link .alignment)) k (rowsOn b live k (rowsIn before)))
+    (octetsOf (sentOn b s live k (rowsIn before) m x)) t t′ before after out out′ n
 
--- the slots that puts go to are looked at for a CSU Request alone
-module _ (m : Message) (f g : ℕ → Bool) (k now : ℕ) (s : rules.Settings) (x : Slot) (before after out out′ : List ℕ) (r : Acted) where
-  by-live : (b : Body) → ((rs : List CsaRecord) → b ≡ csuRequest rs → f ≡ g) → ActsBy b m f k now s x before after out out′ r
-      → ActsBy b m g k now s x before after out out′ r
-  by-live (hello i u ids) e t = t
-  by-live (ca n u rs) e t = t
-  by-live (csuRequest rs) e t = subst (λ (l : ℕ → Bool). ActsBy (csuRequest rs) m l k now s x before after out out′ r) (e rs refl) t
-  by-live (csuReply rs) e t = t
-  by-live (csus rs) e t = t
+module _ {k : ℕ} {slot : rules.Slot} {rows : List Row} {p t t′ before after out out′ : List ℕ} {n : ℕ} (a : ActsAt k slot rows p t t′ before after out out′ n) where
+  acts-rows : (rows′ : List Row) → rows ≡ rows′ → ActsAt k slot rows′ p t t′ before after out out′ n
+  acts-rows rows′ e = record { acts = record { left = leaves-as (a .acts .left) slot rows′ refl e; wrote = a .acts .wrote }; others = a .others }
 
-  pub acts-live : ((rs : List CsaRecord) → m .body ≡ csuRequest rs → f ≡ g) → ActsOn m f k now s x before after out out′ r
-      → ActsOn m g k now s x before after out out′ r
-  acts-live e t = by-live (m .body) e t
+module _ (p : List ℕ) (h : Head) (k now : ℕ) (s : rules.Settings) (t : List ℕ) (before after out : List ℕ) where
+  abbrev live : ℕ → Bool
+  live = liveIn (slotsOf t before)
 
-module _ {k : ℕ} {slot : rules.Slot} {rows : List Row} {p before after out out′ : List ℕ} {r : Acted} (t : Acts k slot rows p before after out out′ r) where
-  acts-rows : (rows′ : List Row) → rows ≡ rows′ → Acts k slot rows′ p before after out out′ r
-  acts-rows rows′ e = record { left = leaves-as (t .left) slot rows′ refl e; wrote = t .wrote }
+  by-body : (t′ out′ : List ℕ) (n : ℕ) (b : Body) → messageOf p h .body ≡ b → ActsBy b (messageOf p h) live k now s t t′ before after out out′ n
+      → ActsOn (messageOf p h) k now s t t′ before after out out′ n
+  by-body t′ out′ n b e a = subst (λ (c : Body). ActsBy c (messageOf p h) live k now s t t′ before after out out′ n) (sym e) a
 
-module _ (p : List ℕ) (h : Head) (live : ℕ → Bool) (k now : ℕ) (s : rules.Settings) (x : Slot) (before after out : List ℕ) where
-  by-body : (out′ : List ℕ) (r : Acted) (b : Body) → messageOf p h .body ≡ b → ActsBy b (messageOf p h) live k now s x before after out out′ r
-      → ActsOn (messageOf p h) live k now s x before after out out′ r
-  by-body out′ r b e t = subst (λ (a : Body). ActsBy a (messageOf p h) live k now s x before after out out′ r) (sym e) t
-
-  pub acts-ca : (out′ : List ℕ) (r : Acted) (u : links.CaRule) → h .kind ≡ Ca → u ≡ ruleFor (s .id) (caPacketAt p h) (slotWith x k before)
-      → TakesCa u k now s (caPacketAt p h) x before after out out′ r → ActsOn (messageOf p h) live k now s x before after out out′ r
-  acts-ca out′ r u e f t =
-      by-body out′ r _ (body-is p h e) (subst (λ (v : links.CaRule). TakesCa v k now s (caPacketAt p h) x before after out out′ r) f t)
-
-  pub acts-request : (out′ : List ℕ) (r : Acted) → h .kind ≡ CsuRequest → TakesRequest live k s (recordsOf p (h .records)) x before after out out′ r
-      → ActsOn (messageOf p h) live k now s x before after out out′ r
-  acts-request out′ r e t =
-      by-body out′ r _ (body-is p h e) (acts-rows t _ (not-cleared _ k _ (enters-none _ (x .link .alignment))))
-
-  pub acts-reply : (r : Acted) → h .kind ≡ CsuReply
-      → Leaves k (slotWith x k before) (allReplied k (recordsOf p (h .records)) (rowsIn before)) before after (r .slot) → r .written ≡ 0
-      → ActsOn (messageOf p h) live k now s x before after out out r
-  acts-reply r e t z =
-      by-body out r _ (body-is p h e) (record {
-        left = leaves-as t (slotWith x k before) _ refl (not-cleared _ k _ (enters-same (x .link .alignment)));
-        wrote = subst (λ (n : ℕ). Wrote [] out out n) (sym z) (wrote-none out);
+  -- a CA, whose slot is read whole and put
+  pub acts-ca : (t′ out′ : List ℕ) (x : Slot) (r : Acted) (u : links.CaRule) → x ≡ slotIn t k → h .kind ≡ Ca → u ≡ ruleFor (s .id) (caPacketAt p h) (slotWith x k before)
+      → TakesCa u k now s (caPacketAt p h) x before after out out′ r → ((j : ℕ) → slotIn t′ j ≡ on k (r .slot) (slotIn t) j)
+      → ActsOn (messageOf p h) k now s t t′ before after out out′ (r .written)
+  acts-ca t′ out′ x r u q e f a put =
+      let y : rules.Slot → rules.Slot = λ z. caSlot (ruleFor (s .id) (caPacketAt p h) z) s now (rowsIn before) (caPacketAt p h) z in
+      let w : rules.Slot = slotNow t k before in
+      let taken : TakesCa (ruleFor (s .id) (caPacketAt p h) w) k now s (caPacketAt p h) (slotIn t k) before after out out′ r =
+      subst (λ (z : Slot). TakesCa (ruleFor (s .id) (caPacketAt p h) (slotWith z k before)) k now s (caPacketAt p h) z before after out out′ r) q
+      (subst (λ (v : links.CaRule). TakesCa v k now s (caPacketAt p h) x before after out out′ r) f a) in
+      by-body t′ out′ (r .written) _ (body-is p h e)
+      (record {
+        acts =
+            subst (λ (z : Slot). Acts k (y w) (clearedIf (enters (w .link .alignment) (y w .link .alignment)) k (rowsIn before))
+            (octetsOf (caSentBy (ruleFor (s .id) (caPacketAt p h) w) s (rowsIn before) (caPacketAt p h) w)) before after out out′ (record { slot = z; written = r .written }))
+            (sym (put-at k t t′ before after (r .slot) put)) taken;
+        others = put-others k t t′ before after (r .slot) put;
       })
 
-  pub acts-csus : (out′ : List ℕ) (r : Acted) → h .kind ≡ Csus
-      → Acts k (withKept [] (slotWith x k before)) (rowsIn before)
-      (octetsOf (unlessEmpty s (slotWith x k before) csuRequest (allSolicited (rowsIn before) (recordsOf p (h .records))))) before after out out′ r
-      → ActsOn (messageOf p h) live k now s x before after out out′ r
-  acts-csus out′ r e t =
-      by-body out′ r _ (body-is p h e) (acts-rows t _ (not-cleared _ k _ (enters-same (x .link .alignment))))
+  pub acts-request : (t′ out′ : List ℕ) (n marks : ℕ) → h .kind ≡ CsuRequest → isMarked marks ≡ live
+      → TakesRequest (isMarked marks) k s (recordsOf p (h .records)) t t′ before after out out′ n → ActsOn (messageOf p h) k now s t t′ before after out out′ n
+  acts-request t′ out′ n marks e l a =
+      by-body t′ out′ n _ (body-is p h e)
+      (acts-rows (subst (λ (f : ℕ → Bool). TakesRequest f k s (recordsOf p (h .records)) t t′ before after out out′ n) l a) _
+      (not-cleared _ k _ (enters-none _ (slotIn t k .link .alignment))))
 
-  pub acts-hello : (y : Slot) (r : Acted) → h .kind ≡ Hello
-      → Moves k (helloMove now (field2 p 8) (field2 p 10) (namesUs (s .id) (messageOf p h .receiver) (receiversOf p (h .records))) (x .link)) x before after y
-      → r ≡ record { slot = y; written = 0 } → ActsOn (messageOf p h) live k now s x before after out out r
-  acts-hello y r e t a =
-      let l : Link = helloMove now (field2 p 8) (field2 p 10) (namesUs (s .id) (messageOf p h .receiver) (receiversOf p (h .records))) (x .link) in
-      subst (λ (q : Acted). ActsOn (messageOf p h) live k now s x before after out out q) (sym a)
-      (by-body out (record { slot = y; written = 0 }) _ (body-is p h e)
-      (record { left = moves-rows k l x before after y t; wrote = wrote-none out }))
+  pub acts-reply : h .kind ≡ CsuReply → memoryOf after ≡ rowsAs (allReplied k (recordsOf p (h .records))) before → ActsOn (messageOf p h) k now s t t before after out out 0
+  acts-reply e m =
+      by-body t out 0 _ (body-is p h e)
+      (acts-rows (record {
+        acts = record {
+          left = leaves-rows k (slotNow t k before) before after (slotIn t k) (allReplied k (recordsOf p (h .records)) (rowsIn before)) m refl;
+          wrote = wrote-none out;
+        };
+        others = λ j q. refl;
+      }) _ (not-cleared _ k _ (enters-same (slotIn t k .link .alignment))))
+
+  pub acts-csus : (out′ : List ℕ) (n : ℕ) → h .kind ≡ Csus → TakesCsus k s (recordsOf p (h .records)) t before after out out′ n
+      → ActsOn (messageOf p h) k now s t t before after out out′ n
+  acts-csus out′ n e a = by-body t out′ n _ (body-is p h e) (acts-rows a _ (not-cleared _ k _ (enters-same (slotIn t k .link .alignment))))
+
+  pub acts-hello : (t′ : List ℕ) → h .kind ≡ Hello
+      → MovesAt k (helloMove now (field2 p 8) (field2 p 10) (namesUs (s .id) (messageOf p h .receiver) (receiversOf p (h .records))) (slotIn t k .link)) t t′ before after
+      → ActsOn (messageOf p h) k now s t t′ before after out out 0
+  acts-hello t′ e m =
+      let l : Link = helloMove now (field2 p 8) (field2 p 10) (namesUs (s .id) (messageOf p h .receiver) (receiversOf p (h .records))) (slotIn t k .link) in
+      by-body t′ out 0 _ (body-is p h e)
+      (record {
+        acts = record { left = moves-rows k l (slotIn t k) before after (slotIn t′ k) (m .moves); wrote = wrote-none out };
+        others = m .others;
+      })

@@ -1,12 +1,12 @@
 -- Changes of our own entries: what the rows hold of an entry, the codes, and what a taken change leaves.
 -- Assumes nothing.
-use Prim.Native.Nat.{ℕ, suc}
+use Prim.Native.Nat.{ℕ, suc, _+_}
 use mathlib.Core.Path.{_≡_, refl, sym, ap, _∙_}
 use mathlib.Core.Bool.{Bool, true, false, not, _&&_, false≢true}
-use mathlib.Core.List.{List, [], _∷_}
+use mathlib.Core.List.{List, [], _∷_, _++_}
 use native.Mathlib.Omega.{arith}
 use lib.Dec.{eqb, ltb, leb}
-use lib.ListN.{length}
+use lib.ListN.{length, length-append}
 use borrow.Author.Tests.{ltb-true, leb-true, ne-eqb, lt-ltb}
 use Rattle.laws.specs.Lists.{isEmpty}
 use Rattle.laws.specs.Tables.{has}
@@ -21,10 +21,12 @@ use Rattle.rules.specs.Sent.{octetsOf}
 use Rattle.rules.specs.Refusals.{ownKeyGood, ownPayloadGood, ownEntry, rowSpent, rowPurged, rowEmpty, setCode, withdrawCode, purgeCode}
 use Rattle.rules.specs.Events as events
 use Rattle.rules.specs.Events.{Event, liveIn, codeOf, acted, sentBy}
-use Rattle.memory.specs.Memory.{valueAt, rowIn, rowsIn, Memory, memoryOf, withRows}
-use Rattle.memory.specs.Search.{FitsKey, FitsRow, firstFrom}
+use Rattle.memory.specs.Memory.{entryNamed, valueAt, rowIn, rowsIn, Memory, memoryOf, withRows}
+use Rattle.memory.specs.Search.{entry, FitsKey, FitsName, FitsNamed, firstFrom}
 use Rattle.memory.specs.Entries.{rowsAs}
+use Rattle.memory.specs.declared.rows.Found.{Found}
 use Rattle.memory.specs.declared.rows.Found.the-variants.{At, Nothing}
+use Rattle.memory.proofs.NameLaws.{named-entry}
 use Rattle.memory.proofs.RowPlaces.{row-get, usedRow, row-case}
 use Rattle.laws.proofs.Cells.{find-none}
 use Rattle.memory.proofs.SearchLaws.{find-first}
@@ -145,17 +147,23 @@ module _ (s : rules.Server) (key : List ℕ) where
         pub purge-taken : o .purged ≡ false → 0 ≡ purgeCode s key
         purge-taken f = rw (good, is-free {b = false} h, is-purged f)
 
--- a key and a payload that are good fit a row
+-- ---- the name of our entry
 pub key-room : (key id : List ℕ) → ownKeyGood key ≡ true → length id ≡ 4 → FitsKey key id
 key-room key id g n =
     let k = and-true (ltb 0 (length key)) (leb (length key) 16) g in
     ((omega (arith, ltb-true 0 (length key) (k .0)), leb-true (length key) 16 (k .1)), n)
 
-pub row-room : (key id p : List ℕ) → ownKeyGood key ≡ true → ownPayloadGood p ≡ true → length id ≡ 4 → FitsRow key id p
-row-room key id p g h n =
-    let k = key-room key id g n in
-    let q = and-true (ltb 0 (length p)) (leb (length p) 32) h in
-    record { some-key = k .0 .0; key-fits = k .0 .1; originator-fits = n; payload-fits = leb-true (length p) 32 (q .1) }
+pub named-own : (key id name : List ℕ) → FitsKey key id → name ≡ key ++ id → (entryNamed name ≡ entry key id) × FitsName name
+named-own key id name fits e =
+    let n : length name ≡ length key + length id = ap length e ∙ length-append key id in
+    (named-entry key id name (fits .1) e, (omega (arith, fits .0 .0, fits .1), omega (arith, fits .0 .1, fits .1)))
+
+pub named-room : (name p : List ℕ) → FitsName name → ownPayloadGood p ≡ true → FitsNamed name p
+named-room name p fits g = (fits, leb-true (length p) 32 (and-true (ltb 0 (length p)) (leb (length p) 32) g .1))
+
+-- what was found for an entry was found for its equal
+pub found-same : (found : Found) (m : List ℕ) (x y : Entry) → x ≡ y → found ≡ firstFrom (holds x) 0 (rowsIn m) → found ≡ firstFrom (holds y) 0 (rowsIn m)
+found-same found m x y e f = f ∙ ap (λ (z : Entry). firstFrom (holds z) 0 (rowsIn m)) e
 
 -- ---- a taken change
 -- the rows are changed, then swept
@@ -187,10 +195,12 @@ module _ (s : Server) (slots before after key : List ℕ) (o : Outcome) (r : Ans
   abbrev our : Entry
   our = ownEntry (settingsOf (s .settings)) key
 
-  pub set-does : (p : List ℕ) → codeNumber o ≡ setCode (serverOf s slots before) key p → memoryOf after ≡ rowsAs (λ rows. swept (setRows live our p rows)) before
-      → Steps (events.set key p) s slots slots before after r
+  -- x is the entry that the name tells
+  pub set-does : (p : List ℕ) (x : Entry) → x ≡ our → codeNumber o ≡ setCode (serverOf s slots before) key p
+      → memoryOf after ≡ rowsAs (λ rows. swept (setRows live x p rows)) before → Steps (events.set key p) s slots slots before after r
   unfolding codeOf acted
-  set-does p c m = own-does (events.set key p) (swept (setRows live our p (rowsIn before))) c m refl refl
+  set-does p x e c m =
+      own-does (events.set key p) (swept (setRows live our p (rowsIn before))) c (m ∙ ap (λ (y : Entry). rowsAs (λ rows. swept (setRows live y p rows)) before) e) refl refl
 
   pub withdraw-does : codeNumber o ≡ withdrawCode (serverOf s slots before) key → memoryOf after ≡ rowsAs (λ rows. swept (withdrawRows live our rows)) before
       → Steps (events.withdraw key) s slots slots before after r

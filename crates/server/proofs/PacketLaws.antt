@@ -14,7 +14,8 @@ use Rattle.laws.specs.Puts.{written}
 use Rattle.laws.proofs.Bools.{pick-of}
 use Rattle.protocol.specs.Sizes.{idLength}
 use Rattle.protocol.specs.Fields.{octet}
-use Rattle.protocol.specs.Messages.{CsaRecord, Message, csuRequest}
+use Rattle.protocol.specs.declared.Alignment.{Alignment}
+use Rattle.protocol.specs.Messages.{Message}
 use Rattle.protocol.specs.Reading.{Reading, malformed, message, readPacket}
 use Rattle.rules.specs.Server as rules
 use Rattle.rules.specs.Server.{slotAt}
@@ -24,7 +25,7 @@ use Rattle.rules.specs.Refusals.{orElse, pollCode, messageCode, readingCode, is
 use Rattle.rules.specs.Events as events
 use Rattle.rules.specs.Events.{Event, liveIn, bodyChanges, readSent, codeOf, counts}
 use Rattle.rules.proofs.StatedPacket.{message-range}
-use Rattle.memory.specs.Memory.{isMarked, rowsIn}
+use Rattle.memory.specs.Memory.{rowsIn}
 use Rattle.slots.specs.declared.state.Slot.{Slot}
 use Rattle.slots.specs.declared.state.Server.{Server}
 use Rattle.slots.specs.declared.answers.Failure.{Failure}
@@ -35,15 +36,14 @@ use Rattle.slots.specs.Codes.{codeNumber}
 use Rattle.slots.specs.State.{settingsOf}
 use Rattle.slots.proofs.Laws.{refused-code}
 use Rattle.table.specs.Words.{slotIn}
-use Rattle.actions.specs.declared.parts.Acted.{Acted}
-use Rattle.actions.specs.Parts.{slotWith, Moves, Wrote}
+use Rattle.actions.specs.Parts.{slotNow, MovesAt, Wrote}
 use Rattle.actions.proofs.PartLaws.{wrote-none}
 use Rattle.server.specs.declared.answers.Answer.{Answer}
-use Rattle.server.specs.State.{slotsOf, serverOf, ended, sweepsAt, Ends, StepsOut}
-use Rattle.server.specs.Events.{ActsOn, slotNow, countsAs, readServer, readOctets, DoesRead}
+use Rattle.server.specs.State.{slotsOf, serverOf, Closes, StepsOut}
+use Rattle.server.specs.Events.{ActsOn, countsAs, readServer, readOctets, DoesRead}
 use Rattle.server.proofs.ServerLaws.{slot-of, closes, acted-in}
 use Rattle.server.proofs.DoesLaws.{step-not, written-not, out-not, out-counted}
-use Rattle.server.proofs.ActLaws.{moves-rows, acts-live}
+use Rattle.server.proofs.ActLaws.{moves-rows}
 
 -- ---- what was read counts, or not
 none-counts : (c : ℕ) (h : Bool) → eqb c 0 ≡ false → (eqb c 10 && h) ≡ false → (eqb c 0 || (eqb c 10 && h)) ≡ false
@@ -93,42 +93,39 @@ module _ (m : Reading) (p : List ℕ) (k now : ℕ) (s : Server) (slots before :
     same = λ f. absurd (false≢true (sym f ∙ t));
   }
 
-module _ (p : List ℕ) (k now : ℕ) (s : Server) (slots : List ℕ) (x : Slot) (before : List ℕ) (h : k < 8) (e : x ≡ slotIn slots k) where
+module _ (p : List ℕ) (k now : ℕ) (s : Server) (slots before : List ℕ) (h : k < 8) where
   -- the malformed Hello
-  pub read-malformed : (at : ℕ) (slots′ mid after out : List ℕ) (y : Slot) (u : Server) (r : Answer) → octet p 1 ≡ 5
-      → Moves k (malformedMove (x .link)) x before mid y → serverOf u slots′ after ≡ ended (sweepsAt false slots k y) k now (slotWith y k mid) (serverOf s slots mid)
+  pub read-malformed : (at : ℕ) (slots′ mid after out : List ℕ) (from : Alignment) (u : Server) (r : Answer) → octet p 1 ≡ 5
+      → from ≡ slotIn slots k .link .alignment → MovesAt k (malformedMove (slotIn slots k .link)) slots slots′ before mid → Closes false from s slots′ k now mid after u
       → r ≡ record { server = u; outcome = Refused failure.Malformed; written = 0 }
       → DoesRead (malformed at) p k now s slots slots′ before after out out r
-  read-malformed at slots′ mid after out y u r t l v a =
+  read-malformed at slots′ mid after out from u r t e m c a =
       let z : Slot = slotIn slots k in
-      let moves : Moves k (malformedMove (z .link)) z before mid y = subst (λ (w : Slot). Moves k (malformedMove (w .link)) w before mid y) e l in
       subst (λ (q : Answer). DoesRead (malformed at) p k now s slots slots′ before after out out q) (sym a)
       (read-counted (malformed at) p k now s slots before slots′ after (record { server = u; outcome = Refused failure.Malformed; written = 0 }) out out
-      (eq-eqb (octet p 1) 5 t) refl (closes (moves-rows k (malformedMove (z .link)) z before mid y moves) h false s u slots slots′ now after v) (wrote-none out))
+      (eq-eqb (octet p 1) 5 t) refl
+      (closes (moves-rows k (malformedMove (z .link)) z before mid (slotIn slots′ k) (m .moves)) h false s u slots slots′ now after (c slots (sym e) (m .others)))
+      (wrote-none out))
 
   -- a message
-  module _ (m : Message) (o : Outcome) (c : codeNumber o ≡ messageCode (settingsOf (s .settings)) (slotWith x k before) m) where
-    code-now : codeNumber o ≡ messageCode (settingsOf (s .settings)) (slotNow slots k before) m
-    code-now = c ∙ ap (λ (w : Slot). messageCode (settingsOf (s .settings)) (slotWith w k before) m) e
-
+  module _ (m : Message) (o : Outcome) (c : codeNumber o ≡ messageCode (settingsOf (s .settings)) (slotNow slots k before) m) where
     pub message-refused : (f : Failure) (r : Answer) (out : List ℕ) → o ≡ Refused f → r ≡ record { server = s; outcome = Refused f; written = 0 }
         → DoesRead (message m) p k now s slots slots before before out out r
     message-refused f r out t a = read-refused (message m) p k now s slots before
-        (ap (λ (b : Bool). b && isHelloType p) (not-ten (settingsOf (s .settings)) (slotNow slots k before) m)) f r out (ap codeNumber (sym t) ∙ code-now) a
+        (ap (λ (b : Bool). b && isHelloType p) (not-ten (settingsOf (s .settings)) (slotNow slots k before) m)) f r out (ap codeNumber (sym t) ∙ c) a
 
-    pub message-taken : (live : ℕ) (slots′ mid after out out′ : List ℕ) (a : Acted) (r : Answer) → o ≡ Taken
-        → ((memory : List ℕ) (rs : List CsaRecord) → m .body ≡ csuRequest rs → isMarked live ≡ liveIn (slotsOf slots memory))
-        → ActsOn m (isMarked live) k now (settingsOf (s .settings)) x before mid out out′ a → Ends (bodyChanges (m .body)) s slots slots′ k now a mid after r
+    pub message-taken : (slots′ mid after out out′ : List ℕ) (changes : Bool) (from : Alignment) (n : ℕ) (r : Answer) → o ≡ Taken → changes ≡ bodyChanges (m .body)
+        → from ≡ slotIn slots k .link .alignment → ActsOn m k now (settingsOf (s .settings)) slots slots′ before mid out out′ n
+        → Closes changes from s slots′ k now mid after (r .server) → r ≡ record { server = r .server; outcome = Taken; written = n }
         → DoesRead (message m) p k now s slots slots′ before after out out′ r
-    message-taken live slots′ mid after out out′ a r t lv d n =
-        let z : messageCode (settingsOf (s .settings)) (slotNow slots k before) m ≡ 0 = sym code-now ∙ ap codeNumber t in
-        let acts : ActsOn m (liveIn (slotsOf slots before)) k now (settingsOf (s .settings)) (slotIn slots k) before mid out out′ a =
-        acts-live m (isMarked live) (liveIn (slotsOf slots before)) k now (settingsOf (s .settings)) (slotIn slots k) before mid out out′ a (lv before)
-        (subst (λ (w : Slot). ActsOn m (isMarked live) k now (settingsOf (s .settings)) w before mid out out′ a) e d) in
+    message-taken slots′ mid after out out′ changes from n r t b e acts l a =
+        let z : messageCode (settingsOf (s .settings)) (slotNow slots k before) m ≡ 0 = sym c ∙ ap codeNumber t in
+        let end : Closes (bodyChanges (m .body)) from s slots′ k now mid after (r .server) =
+        subst (λ (y : Bool). Closes y from s slots′ k now mid after (r .server)) b l in
         read-counted (message m) p k now s slots before slots′ after r out out′
-        (ap (λ (i : ℕ). eqb i 0 || (eqb i 10 && isHelloType p)) z) (ap codeNumber (n .outcome) ∙ sym z)
-        (closes (acts .left) h (bodyChanges (m .body)) s (r .server) slots slots′ now after (n .server))
-        (record { size = n .written ∙ acts .wrote .size; octets = acts .wrote .octets })
+        (ap (λ (i : ℕ). eqb i 0 || (eqb i 10 && isHelloType p)) z) (ap (λ (x : Answer). codeNumber (x .outcome)) a ∙ sym z)
+        (closes (acts .acts .left) h (bodyChanges (m .body)) s (r .server) slots slots′ now after (end slots (sym e) (acts .others)))
+        (record { size = ap (λ (x : Answer). x .written) a ∙ acts .acts .wrote .size; octets = acts .acts .wrote .octets })
 
 -- ---- the event
 or-stops : (n d : ℕ) → eqb n 0 ≡ false → n ≡ orElse n d

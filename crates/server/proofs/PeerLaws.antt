@@ -16,7 +16,7 @@ use Rattle.rules.specs.Server.{Row, freshSlot, fresh, settingsCode}
 use Rattle.rules.specs.Typed.{TypedSettings}
 use Rattle.rules.specs.Refusals.{isPeer, addPeerCode}
 use Rattle.rules.specs.Events.{addPeer, peerSlot, acted}
-use Rattle.memory.specs.Memory.{rowsIn, Memory, memoryOf, withRows, withRequests, withKept, requestsOf, keptOf, freshMemory}
+use Rattle.memory.specs.Memory.{rowsIn, Memory, memoryOf, withRows, requestsPut, keptPut, requestsOf, keptOf, freshMemory}
 use Rattle.records.proofs.MemoryLaws.{memory-rows}
 use Rattle.slots.specs.declared.state.Settings.{Settings}
 use Rattle.slots.specs.declared.state.Slot.{Slot}
@@ -132,10 +132,10 @@ module _ (s : Server) (slots : List ℕ) (k : ℕ) (id m : List ℕ) where
 
 -- ---- the slot: no requests and no kept CA, the rows as they were
 pub adds : (s : Server) (slots slots′ : List ℕ) (k : ℕ) (id a : List ℕ) (y : Slot) (before after : List ℕ) → k < 8 → a ≡ id → slotOf y [] [] ≡ peerSlot a → IsPut k y slots slots′
-    → memoryOf after ≡ withKept k [] (withRequests k [] (memoryOf before)) → serverOf s slots′ after ≡ acted (serverOf s slots before) (addPeer k id)
+    → memoryOf after ≡ keptPut k [] (requestsPut k [] (memoryOf before)) → serverOf s slots′ after ≡ acted (serverOf s slots before) (addPeer k id)
 unfolding acted
 adds s slots slots′ k id a y before after h q e p m =
-    let l : Leaves k (peerSlot id) (rowsIn before) before after y = record { struct = e ∙ ap peerSlot q; memory = m ∙ ap (λ (r : List Row). withKept k [] (withRequests k [] (withRows r (memoryOf before)))) (memory-rows before) } in
+    let l : Leaves k (peerSlot id) (rowsIn before) before after y = record { struct = e ∙ ap peerSlot q; memory = m ∙ ap (λ (r : List Row). keptPut k [] (requestsPut k [] (withRows r (memoryOf before)))) (memory-rows before) } in
     λ z. record {
       settings = settingsOf (s .settings);
       time = s .time;

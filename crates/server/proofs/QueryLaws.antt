@@ -21,9 +21,8 @@ use Rattle.slots.specs.declared.state.Slot.{Slot}
 use Rattle.slots.specs.declared.state.Server.{Server}
 use Rattle.slots.specs.State.{slotOf}
 use Rattle.table.specs.Words.{slotIn}
-use Rattle.actions.specs.Parts.{slotWith}
+use Rattle.actions.specs.Parts.{slotNow, slotWith}
 use Rattle.server.specs.State.{slotsOf, serverOf}
-use Rattle.server.specs.Events.{slotNow}
 use Rattle.server.proofs.ServerLaws.{slots-eight, slot-of}
 
 -- ---- a slot

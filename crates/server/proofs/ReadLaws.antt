@@ -16,7 +16,7 @@ use Rattle.protocol.specs.declared.Checked.{Checked}
 use Rattle.protocol.specs.declared.Checked.the-variants.{Fine, Breaks}
 use Rattle.protocol.specs.Sizes.{idLength}
 use Rattle.protocol.specs.Fields.{octet}
-use Rattle.protocol.specs.Messages.{CsaRecord, Message, Body, ca, csuRequest, csuReply, csus, hello}
+use Rattle.protocol.specs.Messages.{CsaRecord, Message, Body}
 use Rattle.protocol.specs.Checks.{mandatoryCheck}
 use Rattle.protocol.specs.Checksum.{goodSum}
 use Rattle.protocol.specs.Answers.{lengthGood, versionGood, typeGood, noExtensions, fixedCode}
@@ -26,30 +26,38 @@ use Rattle.protocol.specs.WellFormed.{Octets, GoodRecord, GoodRecords, GoodBody
 use Rattle.protocol.proofs.Exact.{records-length, receivers-length}
 use Rattle.protocol.proofs.ReadWellFormed.{read-well-formed}
 use Rattle.rules.specs.Server as rules
-use Rattle.rules.specs.Refusals.{isHello, unusable, messageCode}
+use Rattle.rules.specs.Links.{CaRule}
+use Rattle.rules.specs.Alignment.{ruleFor}
+use Rattle.rules.specs.Refusals.{isHello, isRefused, unusable, messageCode}
 use Rattle.wire.specs.declared.record.Cursor.{Cursor}
 use Rattle.wire.specs.declared.read.Head.{Head}
 use Rattle.wire.specs.declared.read.Reading.{Reading}
 use Rattle.wire.specs.declared.read.Reading.the-variants.{Refused, Packet}
 use Rattle.wire.specs.Views.{recordsOf, messageOf, readingOf, startOf, Reads}
 use Rattle.records.specs.Walks.{Fits, Walks}
-use Rattle.server.specs.Events.{Reaches}
+use Rattle.slots.specs.declared.state.Slot.{Slot}
+use Rattle.table.specs.Words.{slotIn}
+use Rattle.actions.specs.Parts.{slotWith, slotNow}
+use Rattle.actions.specs.Steps.{caPacketAt}
+use Rattle.server.specs.Events.{Reaches, isCa}
 
 -- ---- the body, by the kind
 pub body-is : (p : List ℕ) (h : Head) {k : Kind} → h .kind ≡ k → messageOf p h .body ≡ bodyAt idLength k p (h .records .left) (h .records .at)
 body-is p h e = ap (λ (k : Kind). bodyAt idLength k p (h .records .left) (h .records .at)) e
 
--- not a CSU Request
-abbrev pub isRequest : Body → Bool
-isRequest (hello i f ids) = false
-isRequest (ca n f rs) = false
-isRequest (csuRequest rs) = true
-isRequest (csuReply rs) = false
-isRequest (csus rs) = false
+pub is-ca : (k : Kind) → isCa k ≡ true → k ≡ Ca
+is-ca Ca h = refl
+is-ca CsuRequest h = absurd (false≢true h)
+is-ca CsuReply h = absurd (false≢true h)
+is-ca Csus h = absurd (false≢true h)
+is-ca Hello h = absurd (false≢true h)
 
-pub not-request : (p : List ℕ) (h : Head) (k : Kind) → h .kind ≡ k → isRequest (bodyAt idLength k p (h .records .left) (h .records .at)) ≡ false
-    → (rs : List CsaRecord) → messageOf p h .body ≡ csuRequest rs → ⊥
-not-request p h k e n rs t = false≢true (sym n ∙ sym (ap isRequest (body-is p h e)) ∙ ap isRequest t)
+-- a CA is not usable where its rule refuses it
+pub ca-unusable : (p : List ℕ) (h : Head) (s : rules.Settings) (t m : List ℕ) (k : ℕ) (x : Slot) (b : Bool) (u : CaRule) → isCa (h .kind) ≡ true → x ≡ slotIn t k
+    → u ≡ ruleFor (s .id) (caPacketAt p h) (slotWith x k m) → b ≡ isRefused u → b ≡ unusable s (messageOf p h) (slotNow t k m) (messageOf p h .body)
+ca-unusable p h s t m k x b u e q f g =
+    g ∙ ap isRefused (f ∙ ap (λ (z : Slot). ruleFor (s .id) (caPacketAt p h) (slotWith z k m)) q)
+    ∙ sym (ap (λ (y : Body). unusable s (messageOf p h) (slotNow t k m) y) (body-is p h (is-ca (h .kind) e)))
 
 -- ---- codes 11 to 14
 module _ (s : rules.Settings) (x : rules.Slot) (m : Message) where

@@ -1,17 +1,20 @@
 -- The slots of the server with their parts of the memory, and what an event in a slot leaves of the server.
 -- Assumes nothing.
 use Prim.Native.Nat.{ℕ, _<_}
-use mathlib.Core.Path.{_≡_, refl, sym, ap, _∙_, subst}
+use mathlib.Core.Path.{_≡_, refl, sym, ap, _∙_}
 use mathlib.Core.Bool.{Bool, _||_}
 use mathlib.Core.List.{List, []}
 use native.Mathlib.Omega.{arith}
 use lib.ListN.{length, getD}
 use lib.ListN as lists
 use lib.Seq.{getD-set-same, getD-set-other, set-set}
-use borrow.Author.Tests.{eq-eqb, ne-eqb}
+use lib.Dec.{eqb}
+use borrow.Author.Tests.{eqb-true, eqb-false, eq-eqb, ne-eqb}
 use Rattle.laws.specs.Choice.{pick}
 use Rattle.laws.specs.Tables.{on}
+use Rattle.laws.proofs.Each.{picked}
 use Rattle.laws.proofs.TableLaws.{table-length, table-get, table-same, table-set}
+use Rattle.protocol.specs.declared.Alignment.{Alignment}
 use Rattle.rules.specs.Server as rules
 use Rattle.rules.specs.Server.{freshSlot, Row, slotAt}
 use Rattle.rules.specs.Links.{enters}
@@ -23,12 +26,9 @@ use Rattle.slots.specs.declared.state.Slot.{Slot}
 use Rattle.slots.specs.declared.state.Server.{Server}
 use Rattle.slots.specs.State.{settingsOf, slotOf}
 use Rattle.table.specs.Words.{slotIn}
-use Rattle.actions.specs.declared.parts.Acted.{Acted}
-use Rattle.actions.specs.Parts.{slotWith, Leaves}
+use Rattle.actions.specs.Parts.{slotNow, slotWith, Leaves}
 use Rattle.actions.proofs.PartLaws.{left-rows, left-slot}
-use Rattle.server.specs.declared.answers.Answer.{Answer}
-use Rattle.server.specs.State.{slotsOf, serverOf, ended, sweepsAt, Ends}
-use Rattle.server.specs.Events.{slotNow}
+use Rattle.server.specs.State.{slotsOf, serverOf, ended, sweepsAt, Closes}
 
 -- ---- the slots
 pub slots-eight : (slots : List ℕ) (m : List ℕ) → length (slotsOf slots m) ≡ 8
@@ -63,6 +63,11 @@ slots-same slots a b e f =
     table-same (λ j. slotWith (slotIn slots j) j b) (λ j. slotWith (slotIn slots j) j a) 8
     (λ j h z. slotOf (slotIn slots j) (getD (e z) j []) (getD (f z) j []))
 
+-- a table that differs in slot k alone
+pub is-put : (k : ℕ) (slots slots′ : List ℕ) → ((j : ℕ) → (j ≡ k → ⊥) → slotIn slots′ j ≡ slotIn slots j) → IsPut k (slotIn slots′ k) slots slots′
+is-put k slots slots′ o j =
+    picked (λ (z : Slot). slotIn slots′ j ≡ z) (eqb j k) (slotIn slots′ k) (slotIn slots j) (λ e. ap (slotIn slots′) (eqb-true j k e)) (λ f. o j (eqb-false j k f))
+
 -- the end of an event: the rows may be swept
 pub ends : (sweep : Bool) (s : Server) (slots slots′ before after : List ℕ) (k now : ℕ) (x : Slot) → k < 8 → IsPut k x slots slots′
     → memoryOf after ≡ withRows (sweptIf sweep (rowsIn before)) (memoryOf before)
@@ -79,6 +84,14 @@ ends sweep s slots slots′ before after k now x h p e =
       slots = put z;
       rows = rows-are before after (sweptIf sweep (rowsIn before)) e z;
     }
+
+pub closed : (changes sweep : Bool) (from : Alignment) (s : Server) (slots before after : List ℕ) (k now : ℕ) → k < 8
+    → sweep ≡ (changes || enters from (slotIn slots k .link .alignment)) → memoryOf after ≡ withRows (sweptIf sweep (rowsIn before)) (memoryOf before)
+    → Closes changes from s slots k now before after (record { settings = s .settings; time = now })
+closed changes sweep from s slots before after k now h e m =
+    λ old f o. ends sweep s old slots before after k now (slotIn slots k) h (is-put k old slots o) m
+    ∙ ap (λ (b : Bool). ended b k now (slotWith (slotIn slots k) k before) (serverOf s old before))
+    (e ∙ ap (λ (a : Alignment). changes || enters a (slotIn slots k .link .alignment)) (sym f))
 
 -- but for slot k
 module _ {k : ℕ} {slot : rules.Slot} {rows : List Row} {before after : List ℕ} {x : Slot} (l : Leaves k slot rows before after x) (h : k < 8) where
@@ -180,12 +193,10 @@ closes-acted s r slots slots′ before after last e k now y h p w t l c =
     ∙ ap (λ (u : ℕ). actedIn (changesRows e) k u (slotNow slots k before) new rows (serverOf s slots before)) t
     ∙ sym (acted-in s slots before e k h p w)
 
-module _ (s : Server) (slots before after : List ℕ) (e : Event) (k : ℕ) (x : Slot) (q : x ≡ slotIn slots k) where
-  pub leaves-at : (y : Slot) → LeavesBy e s slots k x before after y → LeavesBy e s slots k (slotIn slots k) before after y
-  leaves-at y l = subst (λ (u : Slot). LeavesBy e s slots k u before after y) q l
-
-  pub ends-acted : (slots′ last : List ℕ) (now : ℕ) (a : Acted) (r : Answer) → k < 8 → placeOf e ≡ inSlot k → emptiesIn e ≡ inSlot k → now ≡ timeAfter e (s .time)
-      → LeavesBy e s slots k x before after (a .slot) → Ends (changesRows e) s slots slots′ k now a after last r
-      → serverOf (r .server) slots′ last ≡ acted (serverOf s slots before) e
-  ends-acted slots′ last now a r h p w t l c =
-      closes-acted s (r .server) slots slots′ before after last e k now (a .slot) h p w t (leaves-at (a .slot) l) (c .server)
+-- the same, of what a function leaves that ends an event
+pub ends-acted : (s : Server) (slots slots′ before after last : List ℕ) (e : Event) (k now : ℕ) (from : Alignment) (r : Server) → k < 8 → placeOf e ≡ inSlot k → emptiesIn e ≡ inSlot k
+    → now ≡ timeAfter e (s .time) → slotIn slots k .link .alignment ≡ from → ((j : ℕ) → (j ≡ k → ⊥) → slotIn slots′ j ≡ slotIn slots j)
+    → LeavesBy e s slots k (slotIn slots k) before after (slotIn slots′ k) → Closes (changesRows e) from s slots′ k now after last r
+    → serverOf r slots′ last ≡ acted (serverOf s slots before) e
+ends-acted s slots slots′ before after last e k now from r h p w t f o l c =
+    closes-acted s r slots slots′ before after last e k now (slotIn slots′ k) h p w t l (c slots f o)

@@ -2,11 +2,13 @@
 -- Assumes nothing.
 use Prim.Native.Nat.{ℕ, _+_, _*_, _≤_}
 use mathlib.Core.Path.{_≡_}
-use mathlib.Core.Bool.{Bool, false, _&&_, _||_}
+use mathlib.Core.Bool.{Bool, true, false, _&&_, _||_}
 use mathlib.Core.List.{List, []}
 use lib.Dec.{eqb}
 use lib.ListN as lists
 use Rattle.laws.specs.Choice.{pick}
+use Rattle.protocol.specs.declared.Kind.{Kind}
+use Rattle.protocol.specs.declared.Kind.the-variants.{Ca, CsuRequest, CsuReply, Csus, Hello}
 use Rattle.protocol.specs.Messages.{Message}
 use Rattle.protocol.specs.Reading.{Reading}
 use Rattle.rules.specs.Server as rules
@@ -23,14 +25,12 @@ use Rattle.memory.specs.Memory.{rowsIn}
 use Rattle.wire.specs.declared.read.Head.{Head}
 use Rattle.wire.specs.Views.{messageOf}
 use Rattle.records.specs.Walks.{Walks}
-use Rattle.slots.specs.declared.state.Slot.{Slot}
 use Rattle.slots.specs.declared.state.Server.{Server}
 use Rattle.slots.specs.declared.answers.Outcome.the-variants.{Taken}
 use Rattle.slots.specs.Codes.{codeNumber}
 use Rattle.slots.specs.State.{settingsOf}
 use Rattle.table.specs.Words.{slotIn}
-use Rattle.actions.specs.declared.parts.Acted.{Acted}
-use Rattle.actions.specs.Parts.{slotWith, Leaves, Wrote, Acts}
+use Rattle.actions.specs.Parts.{slotNow, Leaves, Wrote, ActsAt}
 use Rattle.server.specs.declared.answers.Answer.{Answer}
 use Rattle.server.specs.declared.own.Own.{Own}
 use Rattle.server.specs.State.{slotsOf, serverOf}
@@ -46,16 +46,23 @@ pub record Reaches (p : List ℕ) (h : Head) : Type 0 where
   pub reach : h .records .at + h .records .left * 65535 ≤ 1048576
   pub walks : isHello (messageOf p h .body) ≡ false → Walks p (h .records)
 
-abbrev pub ActsOn : Message → (ℕ → Bool) → ℕ → ℕ → rules.Settings → Slot → List ℕ → List ℕ → List ℕ → List ℕ → Acted → Type 0
-ActsOn m live k now s x before after out out′ r =
-    let y = slotOn (m .body) s live k now (rowsIn before) m (slotWith x k before) in
-    Acts k y (clearedIf (enters (x .link .alignment) (y .link .alignment)) k (rowsOn (m .body) live k (rowsIn before)))
-    (octetsOf (sentOn (m .body) s live k (rowsIn before) m (slotWith x k before))) before after out out′ r
+abbrev pub isCa : Kind → Bool
+isCa Ca = true
+isCa CsuRequest = false
+isCa CsuReply = false
+isCa Csus = false
+isCa Hello = false
+
+-- a message is taken in slot k
+abbrev pub ActsOn : Message → ℕ → ℕ → rules.Settings → List ℕ → List ℕ → List ℕ → List ℕ → List ℕ → List ℕ → ℕ → Type 0
+ActsOn m k now s slots slots′ before after out out′ n =
+    let live = liveIn (slotsOf slots before) in
+    let x = slotNow slots k before in
+    let y = slotOn (m .body) s live k now (rowsIn before) m x in
+    ActsAt k y (clearedIf (enters (x .link .alignment) (y .link .alignment)) k (rowsOn (m .body) live k (rowsIn before)))
+    (octetsOf (sentOn (m .body) s live k (rowsIn before) m x)) slots slots′ before after out out′ n
 
 -- a packet in slot k, once codes 1 to 4 were tried, by what is read of it: whether it counts, and the server and the octets if it does
-abbrev pub slotNow : List ℕ → ℕ → List ℕ → rules.Slot
-slotNow slots k memory = slotWith (slotIn slots k) k memory
-
 abbrev pub countsAs : Reading → List ℕ → Server → List ℕ → ℕ → List ℕ → Bool
 countsAs m p s slots k memory =
     let c = readingCode (settingsOf (s .settings)) (slotNow slots k memory) m in
@@ -91,7 +98,9 @@ pub record PollsTaken (k now : ℕ) (s : Server) (slots slots′ before after ou
   pub wrote : Wrote (octetsOf (pollSent (settingsOf (s .settings)) now (rowsIn before) k (slotNow slots k before))) out out′ (r .written)
 
 -- ---- other events of a slot
-abbrev pub Ups : ℕ → Slot → List ℕ → List ℕ → Slot → Type 0
-Ups k x before after r =
-    let y = upSlot (slotWith x k before) in
-    Leaves k y (clearedIf (enters (x .link .alignment) (y .link .alignment)) k (rowsIn before)) before after r
+abbrev pub Ups : ℕ → List ℕ → List ℕ → List ℕ → List ℕ → Type 0
+Ups k slots slots′ before after =
+    let x = slotNow slots k before in
+    let y = upSlot x in
+    Leaves k y (clearedIf (enters (x .link .alignment) (y .link .alignment)) k (rowsIn before)) before after (slotIn slots′ k)
+    × ((j : ℕ) → (j ≡ k → ⊥) → slotIn slots′ j ≡ slotIn slots j)

@@ -9,6 +9,7 @@ use lib.ListN as lists
 use Rattle.laws.specs.Lists.{table}
 use Rattle.laws.specs.Tables.{on}
 use Rattle.laws.specs.Puts.{written}
+use Rattle.protocol.specs.declared.Alignment.{Alignment}
 use Rattle.rules.specs.Server as rules
 use Rattle.rules.specs.Server.{slotsMost, settingsCode}
 use Rattle.rules.specs.Links.{enters}
@@ -19,11 +20,9 @@ use Rattle.memory.specs.Memory.{rowsIn}
 use Rattle.slots.specs.declared.state.Settings.{Settings}
 use Rattle.slots.specs.declared.state.Slot.{Slot}
 use Rattle.slots.specs.declared.state.Server.{Server}
-use Rattle.slots.specs.declared.answers.Outcome.the-variants.{Taken}
 use Rattle.slots.specs.Codes.{codeNumber}
 use Rattle.slots.specs.State.{settingsOf}
 use Rattle.table.specs.Words.{slotIn}
-use Rattle.actions.specs.declared.parts.Acted.{Acted}
 use Rattle.actions.specs.Parts.{slotWith}
 use Rattle.server.specs.declared.answers.Answer.{Answer}
 
@@ -84,8 +83,8 @@ ended sweep k now x s = record { settings = s .settings; time = now; slots = lis
 abbrev pub sweepsAt : Bool → List ℕ → ℕ → Slot → Bool
 sweepsAt changes slots k x = changes || enters (slotIn slots k .link .alignment) (x .link .alignment)
 
--- the end of a taken event
-pub record Ends (changes : Bool) (s : Server) (slots slots′ : List ℕ) (k now : ℕ) (a : Acted) (before after : List ℕ) (r : Answer) : Type 0 where
-  pub server : serverOf (r .server) slots′ after ≡ ended (sweepsAt changes slots k (a .slot)) k now (slotWith (a .slot) k before) (serverOf s slots before)
-  pub outcome : r .outcome ≡ Taken
-  pub written : r .written ≡ a .written
+-- the end of an event that put slot k into the table and no other, of a server whose slot k was in the state `from`
+abbrev pub Closes : Bool → Alignment → Server → List ℕ → ℕ → ℕ → List ℕ → List ℕ → Server → Type 0
+Closes changes from s slots k now before after r =
+    (old : List ℕ) → slotIn old k .link .alignment ≡ from → ((j : ℕ) → (j ≡ k → ⊥) → slotIn slots j ≡ slotIn old j)
+    → serverOf r slots after ≡ ended (sweepsAt changes old k (slotIn slots k)) k now (slotWith (slotIn slots k) k before) (serverOf s old before)

@@ -9,17 +9,16 @@ ghost use Rattle.rules.specs.Rows.{sweptIf};
 ghost use Rattle.rules.specs.Events.{liveIn};
 ghost use Rattle.memory.specs.Layout.{memorySize};
 ghost use Rattle.memory.specs.Memory.{isMarked, rowsIn, memoryOf, withRows};
-ghost use Rattle.actions.specs.Parts.{slotWith};
+ghost use Rattle.slots.specs.declared.answers.Outcome.the-variants.{Taken};
 ghost use Rattle.table.specs.Words.{tableSize, slotIn};
-ghost use Rattle.server.specs.State.{slotsOf, serverOf, markedIf, ended, sweepsAt, Ends};
+ghost use Rattle.server.specs.State.{slotsOf, markedIf, Closes};
 use crate::answers::Answer;
-use actions::parts::Acted;
 use memory::marks;
 use memory::store;
+use protocol::Alignment;
 use slots::alignment;
 use slots::answers::Outcome;
 use slots::state::Server;
-use slots::state::Slot;
 
 // ---- the slots that puts go to, as an octet of marks
 fn mark_live(slots: &[usize], k: usize, b: u8) -> u8
@@ -66,49 +65,46 @@ fn sweep_if(memory: &mut [u8], sweep: bool)
     }
 }
 
-// The slot is put back, the rows swept where some may have been changed or a waiting list emptied.
-pub fn finish(
+// An event in slot k is taken, and the slot put: the rows are swept where some may have been changed or a waiting list emptied.
+// `from`: the slot's alignment state before the event.
+pub fn close(
     s: Server,
-    slots: &mut [usize],
+    slots: &[usize],
     memory: &mut [u8],
     k: usize,
-    x: Slot,
     time: u32,
     changes: bool,
+    from: Alignment,
 ) -> Server
     requires { ⌜ (length (now slots) ≡ tableSize) × ((length (now memory) ≡ memorySize) × (k < 8)) ⌝ }
-    ensures { λ r. ⌜ serverOf r (now (slots .exit)) (now (memory .exit)) ≡ ended (sweepsAt changes (now (slots .entry)) k x) k time
-        (slotWith x k (now (memory .entry))) (serverOf s (now (slots .entry)) (now (memory .entry))) ⌝ }
+    ensures { λ r. ⌜ Closes changes from s (now (slots .entry)) k time (now (memory .entry)) (now (memory .exit)) r ⌝ }
 {
-    let link = x.link;
-    let to = link.alignment;
-    let entered = alignment::enters(table::alignment_at(slots, k), to);
+    let entered = alignment::enters(from, table::alignment_at(slots, k));
     sweep_if(memory, either(changes, entered));
-    table::put_slot(slots, k, x);
     let mut server = s;
     server.time = time;
     server
 }
 
-// A taken event ends.
 pub fn taken(
     s: Server,
-    slots: &mut [usize],
+    slots: &[usize],
     memory: &mut [u8],
     k: usize,
     time: u32,
     changes: bool,
-    acted: Acted,
+    from: Alignment,
+    written: usize,
 ) -> Answer
     requires { ⌜ (length (now slots) ≡ tableSize) × ((length (now memory) ≡ memorySize) × (k < 8)) ⌝ }
-    ensures { λ r. ⌜ Ends changes s (now (slots .entry)) (now (slots .exit)) k time acted (now (memory .entry)) (now (memory .exit)) r ⌝ }
+    ensures { λ r. ⌜ Closes changes from s (now (slots .entry)) k time (now (memory .entry)) (now (memory .exit)) (r .server)
+        × (r ≡ record { server = r .server; outcome = Taken; written = written }) ⌝ }
 {
-    let x = acted.slot;
-    let server = finish(s, slots, memory, k, x, time, changes);
+    let server = close(s, slots, memory, k, time, changes, from);
     let outcome = Outcome::Taken;
     Answer {
         server,
         outcome,
-        written: acted.written,
+        written,
     }
 }

@@ -9,15 +9,15 @@ ghost use Rattle.rules.specs.Refusals.{ownEntry};
 ghost use Rattle.rules.specs.Events.{liveIn};
 ghost use Rattle.memory.specs.Memory.{memoryOf};
 ghost use Rattle.memory.specs.Entries.{rowsAs};
-ghost use Rattle.memory.specs.Search.{FitsKey, FitsRow, FoundBelow, firstFrom};
+ghost use Rattle.memory.specs.Search.{FitsKey, FitsName, FitsNamed, FoundBelow, firstFrom};
 ghost use Rattle.slots.specs.State.{settingsOf};
 ghost use Prim.Native.Nat.{ℕ, _<_};
-ghost use lib.ListN.{length};
+ghost use lib.ListN.{length, take};
 ghost use Rattle.rules.specs.Events as events;
 ghost use Rattle.rules.specs.Refusals as rules;
 ghost use Rattle.memory.specs.Layout.{memorySize};
 ghost use Rattle.table.specs.Words.{tableSize};
-ghost use Rattle.memory.specs.Memory.{rowIn, rowsIn};
+ghost use Rattle.memory.specs.Memory.{entryNamed, rowIn, rowsIn};
 ghost use Rattle.slots.specs.Codes.{codeNumber};
 ghost use Rattle.server.specs.State.{slotsOf, serverOf, Steps};
 ghost use Rattle.rules.specs.Server.{Entry, isUsed, holds};
@@ -27,11 +27,12 @@ use crate::answers;
 use crate::answers::Answer;
 use crate::ends;
 use memory::entries;
+use memory::names;
+use memory::names::Name;
 use memory::rows;
 use memory::rows::Found;
 use memory::store;
 use protocol::CsaNumber;
-use records::standing;
 use slots::answers::Failure;
 use slots::answers::Outcome;
 use slots::state::Server;
@@ -79,14 +80,24 @@ fn own_of(memory: &[u8], found: Found) -> Own
     }
 }
 
-// The row of our entry with this key.
+// The name of our entry with this key.
+fn own_name(s: Server, key: &[u8]) -> Name
+    requires { ⌜ FitsKey (now key) (s .settings .id) ⌝ }
+    ensures { λ r. ⌜ (entryNamed (take (r .len) (r .octets)) ≡ ownEntry (settingsOf (s .settings)) (now (key .entry)))
+        × FitsName (take (r .len) (r .octets)) ⌝ }
+{
+    let settings = s.settings;
+    let id = settings.id;
+    names::of_entry(key, &id)
+}
+
+// Its row.
 fn row_of(s: Server, memory: &[u8], key: &[u8]) -> Found
     requires { ⌜ (length (now memory) ≡ memorySize) × FitsKey (now key) (s .settings .id) ⌝ }
     ensures { λ r. ⌜ r ≡ firstFrom (holds (ownEntry (settingsOf (s .settings)) (now (key .entry)))) 0 (rowsIn (now (memory .entry))) ⌝ }
 {
-    let settings = s.settings;
-    let id = settings.id;
-    rows::find(memory, key, &id)
+    let name = own_name(s, key);
+    rows::find(memory, octets::first(&name.octets, name.len))
 }
 
 fn key_good(key: &[u8]) -> bool
@@ -121,29 +132,37 @@ fn set_code(memory: &[u8], found: Found) -> Outcome
     if o.held {
         return Outcome::Taken;
     }
-    if standing::has_free(memory) {
+    if rows::has_free(memory) {
         return Outcome::Taken;
     }
     Outcome::Refused(Failure::NoFreeRow)
 }
 
-fn set_taken(
-    s: Server,
-    slots: &[usize],
-    memory: &mut [u8],
-    found: Found,
-    key: &[u8],
-    payload: &[u8],
-)
-    requires { ⌜ (((length (now slots) ≡ tableSize) × (length (now memory) ≡ memorySize)) × FitsRow (now key) (s .settings .id) (now payload))
-        × (found ≡ firstFrom (holds (ownEntry (settingsOf (s .settings)) (now key))) 0 (rowsIn (now memory))) ⌝ }
+fn set_taken(slots: &[usize], memory: &mut [u8], found: Found, name: &[u8], payload: &[u8])
+    requires { ⌜ (((length (now slots) ≡ tableSize) × (length (now memory) ≡ memorySize)) × FitsNamed (now name) (now payload))
+        × (found ≡ firstFrom (holds (entryNamed (now name))) 0 (rowsIn (now memory))) ⌝ }
     ensures { λ _. ⌜ memoryOf (now (memory .exit)) ≡ rowsAs (λ rows. swept (setRows (liveIn (slotsOf (now (slots .entry)) (now (memory .entry))))
-        (ownEntry (settingsOf (s .settings)) (now (key .entry))) (now (payload .entry)) rows)) (now (memory .entry)) ⌝ }
+        (entryNamed (now (name .entry))) (now (payload .entry)) rows)) (now (memory .entry)) ⌝ }
 {
-    let settings = s.settings;
-    let id = settings.id;
-    entries::set_entry(memory, found, ends::live_of(slots), key, &id, payload);
+    entries::set_entry(memory, found, ends::live_of(slots), name, payload);
     store::sweep(memory);
+}
+
+// By the name of the entry: its key is good, and the payload too.
+fn set_named(s: Server, slots: &[usize], memory: &mut [u8], name: &[u8], payload: &[u8]) -> Answer
+    requires { ⌜ ((length (now slots) ≡ tableSize) × (length (now memory) ≡ memorySize)) × FitsNamed (now name) (now payload) ⌝ }
+    ensures { λ r. ⌜ ((key : List ℕ) → rules.ownKeyGood key ≡ true → rules.ownPayloadGood (now (payload .entry)) ≡ true
+        → entryNamed (now (name .entry)) ≡ ownEntry (settingsOf (s .settings)) key
+        → Steps (events.set key (now (payload .entry))) s (now (slots .entry)) (now (slots .entry)) (now (memory .entry)) (now (memory .exit)) r) ⌝ }
+{
+    let found = rows::find(memory, name);
+    match set_code(memory, found) {
+        Outcome::Refused(f) => answers::refuse(s, f),
+        Outcome::Taken => {
+            set_taken(slots, memory, found, name, payload);
+            answers::take(s)
+        }
+    }
 }
 
 pub fn set(s: Server, slots: &[usize], memory: &mut [u8], key: &[u8], payload: &[u8]) -> Answer
@@ -157,14 +176,9 @@ pub fn set(s: Server, slots: &[usize], memory: &mut [u8], key: &[u8], payload: &
     if !payload_good(payload) {
         return answers::refuse(s, Failure::Size);
     }
-    let found = row_of(s, memory, key);
-    match set_code(memory, found) {
-        Outcome::Refused(f) => answers::refuse(s, f),
-        Outcome::Taken => {
-            set_taken(s, slots, memory, found, key, payload);
-            answers::take(s)
-        }
-    }
+    let name = own_name(s, key);
+    let octets = octets::first(&name.octets, name.len);
+    set_named(s, slots, memory, octets, payload)
 }
 
 // ---- withdraw

@@ -98,7 +98,7 @@ fn add_taken(s: Server, slots: &mut [usize], memory: &mut [u8], k: usize, id: &[
         (events.addPeer k (now (id .entry))) ⌝ }
 {
     parts::empty_lists(memory, k);
-    let x = state::peer_slot(records::list::array4(id));
+    let x = state::peer_slot(octets::array4(id));
     table::put_slot(slots, k, x);
     s
 }

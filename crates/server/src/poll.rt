@@ -26,10 +26,10 @@ fn poll_taken(
     ensures { λ r. ⌜ PollsTaken k time s (now (slots .entry)) (now (slots .exit)) (now (memory .entry)) (now (memory .exit)) (now (out .entry))
         (now (out .exit)) r ⌝ }
 {
-    let x = table::slot_at(slots, k);
+    let from = table::alignment_at(slots, k);
     let settings = s.settings;
-    let acted = poll::poll_slot(settings, memory, k, time, x, out);
-    ends::taken(s, slots, memory, k, time, false, acted)
+    let n = poll::poll_slot(settings, slots, memory, k, time, out);
+    ends::taken(s, slots, memory, k, time, false, from, n)
 }
 
 pub fn poll(

@@ -58,7 +58,7 @@ pub fn missed_of(slots: &[usize; 192], slot: usize) -> u16
 }
 
 // How many requests the slot holds.
-pub fn requests_of(memory: &[u8; 20992], slot: usize) -> usize
+pub fn requests_of(memory: &[u8; 21504], slot: usize) -> usize
     ensures { λ r. ⌜ ((s : declared.Server) (slots : List ℕ) → r ≡ length (rules.slotAt (serverOf s slots (now (memory .entry))) slot .requests)) ⌝ }
 {
     if slot < 8 {
@@ -69,13 +69,13 @@ pub fn requests_of(memory: &[u8; 20992], slot: usize) -> usize
 
 // ---- the rows
 // How many rows are in use.
-pub fn rows_used(memory: &[u8; 20992]) -> usize
+pub fn rows_used(memory: &[u8; 21504]) -> usize
     ensures { λ r. ⌜ r ≡ rules.rowsUsed (rowsIn (now (memory .entry))) ⌝ }
 {
     rows::rows_used(memory)
 }
 
-pub fn is_used(memory: &[u8; 20992], row: usize) -> bool
+pub fn is_used(memory: &[u8; 21504], row: usize) -> bool
     ensures { λ r. ⌜ r ≡ isUsed (rowAt (rowsIn (now (memory .entry))) row) ⌝ }
 {
     if row < 64 {
@@ -84,7 +84,7 @@ pub fn is_used(memory: &[u8; 20992], row: usize) -> bool
     false
 }
 
-pub fn key_of(memory: &[u8; 20992], row: usize) -> &[u8]
+pub fn key_of(memory: &[u8; 21504], row: usize) -> &[u8]
     ensures { λ r. ⌜ now r ≡ entryShown (rowAt (rowsIn (now (memory .entry))) row) .key ⌝ }
 {
     if is_used(memory, row) {
@@ -93,7 +93,7 @@ pub fn key_of(memory: &[u8; 20992], row: usize) -> &[u8]
     octets::first(memory, 0)
 }
 
-pub fn originator_of(memory: &[u8; 20992], row: usize) -> &[u8]
+pub fn originator_of(memory: &[u8; 21504], row: usize) -> &[u8]
     ensures { λ r. ⌜ now r ≡ entryShown (rowAt (rowsIn (now (memory .entry))) row) .originator ⌝ }
 {
     if is_used(memory, row) {
@@ -102,7 +102,7 @@ pub fn originator_of(memory: &[u8; 20992], row: usize) -> &[u8]
     octets::first(memory, 0)
 }
 
-pub fn number_of(memory: &[u8; 20992], row: usize) -> CsaNumber
+pub fn number_of(memory: &[u8; 21504], row: usize) -> CsaNumber
     ensures { λ r. ⌜ r ≡ valueShown (rowAt (rowsIn (now (memory .entry))) row) .number ⌝ }
 {
     if is_used(memory, row) {
@@ -111,7 +111,7 @@ pub fn number_of(memory: &[u8; 20992], row: usize) -> CsaNumber
     CsaNumber(0)
 }
 
-pub fn payload_of(memory: &[u8; 20992], row: usize) -> &[u8]
+pub fn payload_of(memory: &[u8; 21504], row: usize) -> &[u8]
     ensures { λ r. ⌜ now r ≡ valueShown (rowAt (rowsIn (now (memory .entry))) row) .payload ⌝ }
 {
     if is_used(memory, row) {
@@ -120,7 +120,7 @@ pub fn payload_of(memory: &[u8; 20992], row: usize) -> &[u8]
     octets::first(memory, 0)
 }
 
-pub fn remaining_of(memory: &[u8; 20992], row: usize) -> u16
+pub fn remaining_of(memory: &[u8; 21504], row: usize) -> u16
     ensures { λ r. ⌜ r ≡ valueShown (rowAt (rowsIn (now (memory .entry))) row) .remaining ⌝ }
 {
     if is_used(memory, row) {
@@ -143,7 +143,7 @@ fn waits_in(memory: &[u8], row: usize, slot: usize) -> bool
 }
 
 // Whether the row waits for the slot.
-pub fn waits(memory: &[u8; 20992], row: usize, slot: usize) -> bool
+pub fn waits(memory: &[u8; 21504], row: usize, slot: usize) -> bool
     ensures { λ r. ⌜ r ≡ waitsFor slot (rowAt (rowsIn (now (memory .entry))) row) ⌝ }
 {
     waits_in(memory, row, slot)

@@ -1,5 +1,6 @@
 // Document 01, 'Hello': the tests and moves of the Hello machine.
 ghost use mathlib.Core.Path.{_≡_};
+ghost use mathlib.Core.Bool.{_&&_};
 ghost use Rattle.rules.specs.Links as links;
 use crate::times;
 use protocol::Alignment;
@@ -38,6 +39,16 @@ pub fn hears_peer(h: HelloState) -> bool
         HelloState::Unidirectional => true,
         HelloState::Bidirectional => true,
     }
+}
+
+// Whether a Hello leaves the state: Bidirectional stays where our ID is named.
+pub fn stays(h: HelloState, named: bool) -> bool
+    ensures { λ r. ⌜ r ≡ (links.isBidirectional h && named) ⌝ }
+{
+    if is_bidirectional(h) {
+        return named;
+    }
+    false
 }
 
 // ---- moves
@@ -85,7 +96,7 @@ fn to_bidirectional(l: Link) -> Link
 }
 
 // Out of Bidirectional the alignment is Down.
-fn to_other(l: Link, h: HelloState) -> Link
+pub fn to_other(l: Link, h: HelloState) -> Link
     ensures { λ r. ⌜ r ≡ links.toOther h l ⌝ }
 {
     with_states(l, h, Alignment::Down)

@@ -2,6 +2,6 @@
 pub mod alignment;
 pub mod answers;
 pub mod hello;
-pub mod ids;
+pub mod rule;
 pub mod state;
 pub mod times;

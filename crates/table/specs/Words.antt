@@ -2,10 +2,12 @@
 -- Assumes nothing.
 use Prim.Native.Nat.{ℕ, zero, suc, _+_, _*_, _%_}
 use mathlib.Core.Bool.{Bool, not}
+use mathlib.Core.Path.{_≡_}
 use mathlib.Core.List.{List, [], _∷_}
 use lib.Dec.{eqb}
 use lib.ListN.{getD}
 use Rattle.laws.specs.Choice.{pick}
+use Rattle.laws.specs.Tables.{on}
 use Rattle.protocol.specs.Numbers.{caNumber}
 use Rattle.protocol.specs.declared.Alignment.{Alignment}
 use Rattle.protocol.specs.declared.Alignment.the-variants as alignment
@@ -15,8 +17,12 @@ use Rattle.protocol.specs.declared.Last.{Last}
 use Rattle.protocol.specs.declared.Last.the-variants.{Never, At}
 use Rattle.protocol.specs.declared.Role.{Role}
 use Rattle.protocol.specs.declared.Role.the-variants.{Master, Slave}
-use Rattle.rules.specs.Server.{slotsMost}
+use Rattle.rules.specs.Server as rules
+use Rattle.rules.specs.Server.{slotsMost, Request}
+use Rattle.rules.specs.Links.{recorded}
+use Rattle.rules.specs.Slots.{withLink}
 use Rattle.slots.specs.declared.state.Slot.{Slot}
+use Rattle.slots.specs.State.{slotOf}
 
 abbrev pub slotWords : ℕ
 slotWords = 24
@@ -80,3 +86,23 @@ slotFrom w = record {
 -- slot k of the table
 unfoldable pub slotIn : List ℕ → ℕ → Slot
 slotIn t k = slotFrom (λ i. getD t (k * slotWords + i) 0)
+
+-- ---- a part of a slot put
+-- word n of slot k is w, all other words are as they were
+abbrev pub PutsWord : ℕ → ℕ → ℕ → List ℕ → List ℕ → Type 0
+PutsWord k n w before after = (j : ℕ) → slotIn after j ≡ on k (slotFrom (on n w (λ i. getD before (k * slotWords + i) 0))) (slotIn before) j
+
+-- slot k is what f makes of it, whatever its part of the memory; the others are as they were
+pub record Changes (k : ℕ) (f : rules.Slot → rules.Slot) (before after : List ℕ) : Type 0 where
+  pub slot : (qs : List Request) (kept : List ℕ) → slotOf (slotIn after k) qs kept ≡ f (slotOf (slotIn before k) qs kept)
+  pub others : (j : ℕ) → (j ≡ k → ⊥) → slotIn after j ≡ slotIn before j
+
+-- one of the three numbers that a taken Hello records
+abbrev pub withHeard : ℕ → rules.Slot → rules.Slot
+withHeard n x = withLink (recorded n (x .link .interval) (x .link .factor) (x .link)) x
+
+abbrev pub withInterval : ℕ → rules.Slot → rules.Slot
+withInterval n x = withLink (recorded (x .link .heard) n (x .link .factor) (x .link)) x
+
+abbrev pub withFactor : ℕ → rules.Slot → rules.Slot
+withFactor n x = withLink (recorded (x .link .heard) (x .link .interval) n (x .link)) x

@@ -5,6 +5,7 @@ ghost use lib.ListN.{length, getD};
 ghost use Rattle.laws.specs.Tables.{on};
 ghost use Rattle.table.specs.Words.{tableSize, slotFrom, slotIn};
 
+pub mod fields;
 pub mod words;
 
 use protocol::Alignment;
@@ -67,7 +68,7 @@ fn last_at(t: &[usize], k: usize) -> CaHead
     }
 }
 
-fn link_at(t: &[usize], k: usize) -> Link
+pub fn link_at(t: &[usize], k: usize) -> Link
     requires { ⌜ (length (now t) ≡ tableSize) × (k < 8) ⌝ }
     ensures { λ r. ⌜ r ≡ slotIn (now (t .entry)) k .link ⌝ }
 {

@@ -67,7 +67,7 @@ fn put_answer(text: &mut [u8], number: u64, a: Answer, used: usize, out: &[u8]) 
     put_octets(text, n, octets::first(out, a.written))
 }
 
-fn line(number: u64, a: Answer, memory: &[u8; 20992], out: &[u8; 284]) {
+fn line(number: u64, a: Answer, memory: &[u8; 21504], out: &[u8; 284]) {
     let mut text = [0u8; 1024];
     let used = server::queries::rows_used(memory);
     let end = put_answer(&mut text, number, a, used, out);
@@ -77,7 +77,7 @@ fn line(number: u64, a: Answer, memory: &[u8; 20992], out: &[u8; 284]) {
 fn record(
     s: Server,
     slots: &mut [usize; 192],
-    memory: &mut [u8; 20992],
+    memory: &mut [u8; 21504],
     r: &[u8],
     number: u64,
 ) -> Server {
@@ -87,7 +87,7 @@ fn record(
     a.server
 }
 
-fn records(s: Server, slots: &mut [usize; 192], memory: &mut [u8; 20992], count: u32) {
+fn records(s: Server, slots: &mut [usize; 192], memory: &mut [u8; 21504], count: u32) {
     let mut input = [0u8; 292];
     let mut x = s;
     let mut i: u32 = 1;
@@ -101,7 +101,7 @@ fn records(s: Server, slots: &mut [usize; 192], memory: &mut [u8; 20992], count:
     }
 }
 
-fn list(slots: &mut [usize; 192], memory: &mut [u8; 20992], count: u32) {
+fn list(slots: &mut [usize; 192], memory: &mut [u8; 21504], count: u32) {
     let mut input = [0u8; 292];
     let n = io::read_full(0, &mut input);
     let first = lines::take::begin(slots, memory, octets::first(&input, n));
@@ -117,7 +117,7 @@ fn list(slots: &mut [usize; 192], memory: &mut [u8; 20992], count: u32) {
 
 fn main() {
     let mut slots = [0usize; 192];
-    let mut memory = [0u8; 20992];
+    let mut memory = [0u8; 21504];
     let mut head = [0u8; 4];
     let mut turns = u64::MAX;
     while turns > 0 {

@@ -1,15 +1,14 @@
 // The lines of a packet.
 ghost use mathlib.Core.Path.{_≡_};
+ghost use Prim.Native.Nat.{_≤_};
 ghost use Rattle.protocol.specs.Layouts.{typeOf};
 use crate::print;
 use protocol::CaFlags;
 use protocol::Kind;
 use wire::read::Head;
 use wire::read::Reading;
-use wire::record::Csa;
+use wire::record;
 use wire::record::Cursor;
-use wire::record::NextReceiver;
-use wire::record::NextRecord;
 
 fn type_number(k: Kind) -> u64
     ensures { λ r. ⌜ r ≡ typeOf k ⌝ }
@@ -78,75 +77,72 @@ fn hello_line(p: &[u8]) {
     print::line_end();
 }
 
-fn record_numbers(v: Csa) {
+fn record_numbers(p: &[u8], r: usize)
+    requires { ⌜ r ≤ 4294967296 ⌝ }
+{
     print::indent();
-    print::number(v.hops as u64);
+    print::number(record::hops(p, r) as u64);
     print::space();
-    print::bit(v.null);
+    print::bit(record::null(p, r));
     print::space();
-    io::print_hex(1, numbers::bits_of(v.number) as u64, 8);
+    io::print_hex(1, numbers::bits_of(record::number(p, r)) as u64, 8);
 }
 
-fn record_octets(p: &[u8], v: Csa) {
+// The key is all of a name but the originator, its last four octets.
+fn name_octets(name: &[u8]) {
+    if name.len() < 4 {
+        return;
+    }
+    let n = name.len() - 4;
     print::space();
-    print::octets(wire::record::key(p, v));
+    print::octets(octets::first(name, n));
     print::space();
-    print::octets(wire::record::originator(p, v));
-    print::space();
-    print::octets(wire::record::payload(p, v));
+    print::octets(octets::tail(name, n));
 }
 
-fn record_line(p: &[u8], v: Csa) {
-    record_numbers(v);
-    record_octets(p, v);
+fn record_line(p: &[u8], r: usize)
+    requires { ⌜ r ≤ 4294967296 ⌝ }
+{
+    record_numbers(p, r);
+    name_octets(record::name(p, r));
+    print::space();
+    print::octets(record::payload(p, r));
     print::line_end();
 }
 
-// A cursor of a packet that was read is far below the bound.
+// The position of a record in a packet that was read is far below the bound.
 fn records(p: &[u8], from: Cursor) {
-    let mut c = from;
+    let mut at = from.at;
     let mut left = from.left;
     while left > 0 {
         left -= 1;
-        if c.at > 1048576 {
+        if at > 1048576 {
             return;
         }
-        match c.record(p) {
-            NextRecord::Record(v, next) => {
-                record_line(p, v);
-                c = next;
-            }
-            NextRecord::NoRecord => {
-                return;
-            }
-        }
+        record_line(p, at);
+        at += record::size(p, at);
     }
 }
 
-fn receiver_line(p: &[u8], at: usize) {
+fn receiver_line(p: &[u8], at: usize)
+    requires { ⌜ at ≤ 4294967296 ⌝ }
+{
     print::indent();
-    print::octets(octets::part_of(p, at, 4));
+    print::octets(record::receiver(p, at));
     print::line_end();
 }
 
-// A cursor of a packet that was read is far below the bound.
+// As `records` is.
 fn receivers(p: &[u8], from: Cursor) {
-    let mut c = from;
+    let mut at = from.at;
     let mut left = from.left;
     while left > 0 {
         left -= 1;
-        if c.at > 1048576 {
+        if at > 1048576 {
             return;
         }
-        match c.receiver(p) {
-            NextReceiver::Receiver(at, next) => {
-                receiver_line(p, at);
-                c = next;
-            }
-            NextReceiver::NoReceiver => {
-                return;
-            }
-        }
+        receiver_line(p, at);
+        at += 5;
     }
 }
 

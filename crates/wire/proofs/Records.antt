@@ -1,82 +1,50 @@
--- The records and receivers of a packet, one after the other.
+-- The records and receivers of a packet by position, and a walk over them.
 -- Assumes nothing.
 use Prim.Native.Nat.{ℕ, zero, suc, _+_, _-_, _<_}
 use mathlib.Core.Path.{_≡_, refl, sym, ap, _∙_}
-use mathlib.Core.Bool.{Bool}
-use mathlib.Core.List.{List, [], _∷_}
+use mathlib.Core.List.{List, [], _∷_, _++_}
 use native.Mathlib.Omega.{arith}
 use Rattle.laws.specs.Lists.{part}
-use Rattle.protocol.specs.declared.CsaNumber.{CsaNumber}
+use Rattle.laws.proofs.Lists.{part-split}
 use Rattle.protocol.specs.Sizes.{idLength}
-use Rattle.protocol.specs.Fields.{octet, field2, field4}
-use Rattle.protocol.specs.Numbers.{csaOf}
-use Rattle.protocol.specs.Checks.{nullAt, summarySize, payloadSize}
+use Rattle.protocol.specs.Fields.{octet, field2}
+use Rattle.protocol.specs.Checks.{summarySize, payloadSize}
 use Rattle.protocol.specs.Reading.{recordAt, recordsAt, receiversAt}
-use Rattle.wire.specs.declared.record.Csa.{Csa}
-use Rattle.wire.specs.declared.record.Cursor.{Cursor}
-use Rattle.wire.specs.declared.record.NextRecord.the-variants.{Record, NoRecord}
-use Rattle.wire.specs.declared.record.NextReceiver.the-variants.{Receiver, NoReceiver}
-use Rattle.wire.specs.Views.{csaRecordOf, Steps, StepsReceiver}
 
 module _ (p : List ℕ) where
-  pub record-of : (r : ℕ) {key hops bits size len : ℕ} {null : Bool} {number : CsaNumber} → key ≡ octet p (r + 4) → hops ≡ field2 p r
-      → null ≡ nullAt p r → bits ≡ field4 p (r + 8) → number ≡ csaOf bits → size ≡ summarySize idLength p r → len ≡ payloadSize idLength p r
-      → csaRecordOf p (record {
-        hops = hops;
-        null = null;
-        number = number;
-        «key_at» = r + 12;
-        «key_len» = key;
-        «originator_at» = r + 12 + key;
-        «payload_at» = r + size;
-        «payload_len» = len;
-      }) ≡ recordAt idLength p r
+  pub name-at : (r : ℕ) {key : ℕ} {n : List ℕ} → key ≡ octet p (r + 4) → n ≡ part p (r + 12) (key + 4)
+      → n ≡ recordAt idLength p r .key ++ recordAt idLength p r .originator
   unfolding recordAt
-  record-of r k h n b c s l = λ i. record {
-    hops = h i;
-    null = n i;
-    number = (c ∙ ap csaOf b) i;
-    key = part p (r + 12) (k i);
-    originator = part p (r + 12 + k i) idLength;
-    payload = part p (r + s i) (l i);
-  }
+  name-at r {key} k e =
+      e ∙ part-split p (r + 12) key 4 (r + 12 + key) refl ∙ ap (λ (x : ℕ). part p (r + 12) x ++ part p (r + 12 + x) idLength) k
 
-  none : (left at : ℕ) → left ≡ 0 → [] ≡ recordsAt idLength p left at
+  pub payload-at : (r : ℕ) {size len : ℕ} {n : List ℕ} → size ≡ summarySize idLength p r → len ≡ payloadSize idLength p r → n ≡ part p (r + size) len
+      → n ≡ recordAt idLength p r .payload
+  unfolding recordAt
+  payload-at r s l e = e ∙ (λ i. part p (r + s i) (l i))
+
+  -- ---- a walk over records or receivers: `left` of them from `at` on
+  module _ (left at : ℕ) where
+    pub no-records : left ≡ 0 → recordsAt idLength p left at ≡ []
+    unfolding recordsAt
+    no-records e = ap (λ (n : ℕ). recordsAt idLength p n at) e
+
+    pub no-receivers : left ≡ 0 → receiversAt idLength p left at ≡ []
+    unfolding receiversAt
+    no-receivers e = ap (λ (n : ℕ). receiversAt idLength p n at) e
+
+  -- n is the length of the record at `at`
+  pub next-record : (left at : ℕ) {n : ℕ} → 0 < left → n ≡ field2 p (at + 2)
+      → recordsAt idLength p left at ≡ recordAt idLength p at ∷ recordsAt idLength p (left - 1) (at + n)
   unfolding recordsAt
-  none left at e = ap (λ (n : ℕ). recordsAt idLength p n at) (sym e)
+  next-record zero at h e = absurd (omega arith)
+  next-record (suc m) at h e =
+      let f : m ≡ suc m - 1 = omega arith in
+      λ i. recordAt idLength p at ∷ recordsAt idLength p (f i) (at + sym e i)
 
-  next : (left at : ℕ) → (left ≡ 0 → ⊥) → recordAt idLength p at ∷ recordsAt idLength p (left - 1) (at + field2 p (at + 2)) ≡ recordsAt idLength p left at
-  unfolding recordsAt
-  next zero at h = absurd (h refl)
-  next (suc n) at h =
-      let e : suc n - 1 ≡ n = omega arith in
-      ap (λ (m : ℕ). recordAt idLength p at ∷ recordsAt idLength p m (at + field2 p (at + 2))) e
-
-  no-receiver : (left at : ℕ) → left ≡ 0 → [] ≡ receiversAt idLength p left at
+  pub next-receiver : (left at : ℕ) → 0 < left → receiversAt idLength p left at ≡ part p (at + 1) idLength ∷ receiversAt idLength p (left - 1) (at + 5)
   unfolding receiversAt
-  no-receiver left at e = ap (λ (n : ℕ). receiversAt idLength p n at) (sym e)
-
-  next-receiver : (left at : ℕ) → (left ≡ 0 → ⊥) → part p (at + 1) idLength ∷ receiversAt idLength p (left - 1) (at + 5) ≡ receiversAt idLength p left at
-  unfolding receiversAt
-  next-receiver zero at h = absurd (h refl)
-  next-receiver (suc n) at h =
-      let e : suc n - 1 ≡ n = omega arith in
-      ap (λ (m : ℕ). part p (at + 1) idLength ∷ receiversAt idLength p m (at + 5)) e
-
-  -- ---- the cursor's steps
-  module _ (c : Cursor) where
-    pub steps-none : c .left ≡ 0 → Steps p c NoRecord
-    steps-none e = record { records = none (c .left) (c .at) e; near = omega arith }
-
-    pub steps : {v : Csa} {size : ℕ} → (c .left ≡ 0 → ⊥) → csaRecordOf p v ≡ recordAt idLength p (c .at) → size ≡ field2 p (c .at + 2) → size < 65536
-        → Steps p c (Record v (record { at = c .at + size; left = c .left - 1 }))
-    steps h e s few = record {
-      records = (λ i. e i ∷ recordsAt idLength p (c .left - 1) (c .at + s i)) ∙ next (c .left) (c .at) h;
-      near = omega arith;
-    }
-
-    pub steps-no-receiver : c .left ≡ 0 → StepsReceiver p c NoReceiver
-    steps-no-receiver e = record { receivers = no-receiver (c .left) (c .at) e; near = omega arith }
-
-    pub steps-receiver : (c .left ≡ 0 → ⊥) → StepsReceiver p c (Receiver (c .at + 1) (record { at = c .at + 5; left = c .left - 1 }))
-    steps-receiver h = record { receivers = next-receiver (c .left) (c .at) h; near = omega arith }
+  next-receiver zero at h = absurd (omega arith)
+  next-receiver (suc m) at h =
+      let f : m ≡ suc m - 1 = omega arith in
+      λ i. part p (at + 1) idLength ∷ receiversAt idLength p (f i) (at + 5)

@@ -1,23 +1,27 @@
-// The five types of packet, each written into a lent slice.
+// The five types of packet, each written into a lent slice: the records where they shall stand, then the head before them.
 ghost use mathlib.Core.Path.{_≡_};
-ghost use Prim.Native.Nat.{_+_, _*_, _≤_};
-ghost use Rattle.protocol.specs.Layouts.{packetOf};
-ghost use Rattle.protocol.specs.Checks.{isRequestKind};
-ghost use Rattle.writer.specs.Write.{caMessage, requestMessage, replyMessage, csusMessage, helloMessage, Writes};
-ghost use Rattle.writer.specs.Write.{receiverLength, noLead, caLead, helloLead, recordMost, recordsPacket};
-use crate::put::Lead;
-use crate::put::begin;
-use crate::put::count_of;
-use crate::put::finish;
+ghost use Prim.Native.Nat.{_+_, _≤_, _<_};
+ghost use lib.ListN.{length};
+ghost use Rattle.laws.specs.Puts.{Put};
+ghost use Rattle.protocol.specs.Sizes.{idLength};
+ghost use Rattle.protocol.specs.Messages.{ca, csuRequest, csuReply, csus};
+ghost use Rattle.protocol.specs.Layouts.{recordOctets, packetOf};
+ghost use Rattle.writer.specs.Write.{namedRecord, helloMessage, receiverLength, commonOf, Wrote, Behind, FinishesWith};
+use crate::put::bit;
+use crate::put::ca_start;
+use crate::put::common_part;
+use crate::put::fixed_part;
 use crate::put::flags_of;
-use crate::put::put_records;
+use crate::put::hello_start;
+use crate::put::put_head;
+use crate::put::record_head;
+use numbers::bits_of;
+use octets::first;
+use octets::put;
 use protocol::CaFlags;
 use protocol::CaNumber;
 use protocol::CsaNumber;
 use protocol::Kind;
-
-// The longest packet. Each slice that is lent holds it, or nothing is written.
-const PACKET_MOST: usize = 284;
 
 // What every packet says of its group and its two servers.
 pub struct Common {
@@ -27,137 +31,78 @@ pub struct Common {
     pub receiver: [u8; 4],
 }
 
-// A record to write: the first `key_len` octets of the key, the first `payload_len` of the payload.
-pub struct CsaValue {
-    pub hops: u16,
-    pub null: bool,
-    pub number: CsaNumber,
-    pub key_len: u8,
-    pub payload_len: u8,
-    pub originator: [u8; 4],
-    pub key: [u8; 16],
-    pub payload: [u8; 32],
-}
-
-// The first `count` of the list, at most 4.
-pub struct Records {
-    pub count: usize,
-    pub list: [CsaValue; 4],
-}
-
-// How many octets the packet has, or that the slice is too short for the longest.
-pub enum Written {
-    Octets(usize),
-    TooShort,
-}
-
-// Nothing before the common part.
-fn no_lead() -> Lead
-    ensures { λ r. ⌜ r ≡ noLead ⌝ }
-{
-    Lead {
-        len: 0,
-        octets: [0; 8],
-    }
-}
-
-// The CA sequence number.
-fn ca_lead(number: CaNumber) -> Lead
-    ensures { λ r. ⌜ r ≡ caLead number ⌝ }
-{
-    let n = number.0;
-    Lead {
-        len: 4,
-        octets: [
-            (n / 16777216) as u8,
-            (n / 65536 % 256) as u8,
-            (n / 256 % 256) as u8,
-            (n % 256) as u8,
-            0,
-            0,
-            0,
-            0,
-        ],
-    }
-}
-
-// HelloInterval, DeadFactor, unused, Family ID.
-fn hello_lead(interval: u16, factor: u16) -> Lead
-    ensures { λ r. ⌜ r ≡ helloLead interval factor ⌝ }
-{
-    Lead {
-        len: 8,
-        octets: [
-            (interval / 256) as u8,
-            (interval % 256) as u8,
-            (factor / 256) as u8,
-            (factor % 256) as u8,
-            0,
-            0,
-            0,
-            0,
-        ],
-    }
-}
-
-fn carries_payload(k: Kind) -> bool
-    ensures { λ r. ⌜ r ≡ isRequestKind k ⌝ }
-{
-    match k {
-        Kind::Ca => false,
-        Kind::CsuRequest => true,
-        Kind::CsuReply => false,
-        Kind::Csus => false,
-        Kind::Hello => false,
-    }
-}
-
-// The four types of packet with records, which differ in what stands here.
-fn write_records(out: &mut [u8], k: Kind, lead: Lead, c: Common, flags: u16, r: Records) -> Written
-    requires { ⌜ lead .len + (3 * recordMost (isRequestKind k) + 64) ≤ 256 ⌝ }
-    ensures { λ x. ⌜ Writes (recordsPacket k lead c flags r) (now (out .entry)) (now (out .exit)) x ⌝ }
-{
-    if out.len() < PACKET_MOST {
-        return Written::TooShort;
-    }
-    let at = begin(out, lead, c, flags, 4, count_of(r) as u16);
-    let n = put_records(out, at, r, carries_payload(k));
-    finish(out, k, n);
-    Written::Octets(n)
-}
-
-pub fn write_ca(
+// A record at a position: the next one. Below the writers: asks for the room and for a name and a payload that fit a record.
+pub fn put_record(
     out: &mut [u8],
-    c: Common,
-    number: CaNumber,
-    flags: CaFlags,
-    records: Records,
-) -> Written
-    ensures { λ r. ⌜ Writes (packetOf (caMessage c number flags records)) (now (out .entry)) (now (out .exit)) r ⌝ }
+    at: usize,
+    hops: u16,
+    null: bool,
+    number: CsaNumber,
+    name: &[u8],
+    payload: &[u8],
+) -> usize
+    requires { ⌜ ((4 ≤ length (now name)) × (length (now name) ≤ 20)) × ((length (now payload) ≤ 32) × (at + 64 ≤ length (now out))) ⌝ }
+    ensures { λ n. ⌜ Put (recordOctets 0 (namedRecord hops null number (now (name .entry)) (now (payload .entry)))) at (now (out .entry)) (now (out .exit)) n
+        × (n ≡ at + 12 + length (now (name .entry)) + length (now (payload .entry))) ⌝ }
 {
-    write_records(out, Kind::Ca, ca_lead(number), c, flags_of(flags), records)
+    let h = record_head(
+        hops,
+        (name.len() - 4) as u8,
+        payload.len() as u8,
+        bit(null) * 32768,
+        bits_of(number),
+    );
+    let a = put(out, at, &h);
+    let b = put(out, a, name);
+    if payload.len() == 0 {
+        return b;
+    }
+    put(out, b, payload)
 }
 
-pub fn write_csu_request(out: &mut [u8], c: Common, records: Records) -> Written
-    ensures { λ r. ⌜ Writes (packetOf (requestMessage c records)) (now (out .entry)) (now (out .exit)) r ⌝ }
+// The head of a packet whose records stand in `out` from octet 28 up to n, and its checksum.
+fn finish_csu(out: &mut [u8], k: Kind, c: Common, count: u16, n: usize)
+    requires { ⌜ (28 ≤ n) × ((n < 65536) × (n ≤ length (now out))) ⌝ }
+    ensures { λ _. ⌜ Behind k (commonOf c 0 idLength count) 28 n (now (out .entry)) (now (out .exit)) ⌝ }
 {
-    write_records(out, Kind::CsuRequest, no_lead(), c, 0, records)
+    let start = fixed_part(k, n as u16);
+    let common = common_part(c, 0, 4, count);
+    put_head(out, &start, &common, n);
 }
 
-pub fn write_csu_reply(out: &mut [u8], c: Common, records: Records) -> Written
-    ensures { λ r. ⌜ Writes (packetOf (replyMessage c records)) (now (out .entry)) (now (out .exit)) r ⌝ }
+pub fn finish_request(out: &mut [u8], c: Common, count: u16, n: usize)
+    requires { ⌜ (28 ≤ n) × ((n < 65536) × (n ≤ length (now out))) ⌝ }
+    ensures { λ _. ⌜ FinishesWith csuRequest c 28 count n (now (out .entry)) (now (out .exit)) ⌝ }
 {
-    write_records(out, Kind::CsuReply, no_lead(), c, 0, records)
+    finish_csu(out, Kind::CsuRequest, c, count, n);
 }
 
-pub fn write_csus(out: &mut [u8], c: Common, records: Records) -> Written
-    ensures { λ r. ⌜ Writes (packetOf (csusMessage c records)) (now (out .entry)) (now (out .exit)) r ⌝ }
+pub fn finish_reply(out: &mut [u8], c: Common, count: u16, n: usize)
+    requires { ⌜ (28 ≤ n) × ((n < 65536) × (n ≤ length (now out))) ⌝ }
+    ensures { λ _. ⌜ FinishesWith csuReply c 28 count n (now (out .entry)) (now (out .exit)) ⌝ }
 {
-    write_records(out, Kind::Csus, no_lead(), c, 0, records)
+    finish_csu(out, Kind::CsuReply, c, count, n);
+}
+
+pub fn finish_csus(out: &mut [u8], c: Common, count: u16, n: usize)
+    requires { ⌜ (28 ≤ n) × ((n < 65536) × (n ≤ length (now out))) ⌝ }
+    ensures { λ _. ⌜ FinishesWith csus c 28 count n (now (out .entry)) (now (out .exit)) ⌝ }
+{
+    finish_csu(out, Kind::Csus, c, count, n);
+}
+
+// The records of a CA start at octet 32.
+pub fn finish_ca(out: &mut [u8], c: Common, number: CaNumber, flags: CaFlags, count: u16, n: usize)
+    requires { ⌜ (32 ≤ n) × ((n < 65536) × (n ≤ length (now out))) ⌝ }
+    ensures { λ _. ⌜ FinishesWith (ca number flags) c 32 count n (now (out .entry)) (now (out .exit)) ⌝ }
+{
+    let start = ca_start(n as u16, number);
+    let common = common_part(c, flags_of(flags), 4, count);
+    put_head(out, &start, &common, n);
 }
 
 fn receiver_len(named: bool) -> u8
-    ensures { λ r. ⌜ (r ≡ receiverLength named) ⌝ }
+    ensures { λ r. ⌜ (r ≡ receiverLength named) × (r ≤ 4) ⌝ }
 {
     if named {
         return 4;
@@ -165,21 +110,15 @@ fn receiver_len(named: bool) -> u8
     0
 }
 
-// A Hello that names the receiver, or nobody.
-pub fn write_hello(out: &mut [u8], c: Common, interval: u16, factor: u16, named: bool) -> Written
-    ensures { λ r. ⌜ Writes (packetOf (helloMessage c interval factor named)) (now (out .entry)) (now (out .exit)) r ⌝ }
+// A Hello that names the receiver, or nobody: how many octets it has. Below the writers: asks for the room.
+pub fn write_hello(out: &mut [u8], c: Common, interval: u16, factor: u16, named: bool) -> usize
+    requires { ⌜ 36 ≤ length (now out) ⌝ }
+    ensures { λ n. ⌜ Wrote (packetOf (helloMessage c interval factor named)) (now (out .entry)) (now (out .exit)) n ⌝ }
 {
-    if out.len() < PACKET_MOST {
-        return Written::TooShort;
-    }
-    let n = begin(
-        out,
-        hello_lead(interval, factor),
-        c,
-        0,
-        receiver_len(named),
-        0,
-    );
-    finish(out, Kind::Hello, n);
-    Written::Octets(n)
+    let len = receiver_len(named);
+    let n = 32 + len as usize;
+    let start = hello_start(n as u16, interval, factor);
+    let common = common_part(c, 0, len, 0);
+    put_head(out, &start, first(&common, n - 16), n);
+    n
 }

@@ -1,3 +1,4 @@
+-- Each round stores one entry; the memory keeps its length.
 use mathlib.Core.Path.{_≡_, refl, _∙_}
 use Prim.Native.Nat.{_-_}
 use lib.ListN.{length}

@@ -1,3 +1,4 @@
+-- Each round is one step; the memory keeps its length.
 use mathlib.Core.Path.{_≡_, refl, _∙_}
 use Prim.Native.Nat.{_-_}
 use lib.ListN.{length}
@@ -11,13 +12,13 @@ Inv-loop memory₀ kind rows count x₀ sum₀ i₀ memory x sum i = length memo
 abbrev μ-loop : tie.MeasureT-loop
 μ-loop memory₀ kind rows count x₀ sum₀ i₀ memory x sum i = count - i
 
-turn-requires : tie.Need-turn-requires Inv-loop μ-loop
-turn-requires c κs =
+step-requires : tie.Need-step-requires Inv-loop μ-loop
+step-requires c κs =
     let p = c .before .before .before .before .before .before .before .before .before .pre in
     (c .before .before .before .loop .inv ∙ c .before .before .before .before .before .before .fill .kept .0 ∙ p .0, p .1)
 
 loop-again : tie.Need-loop-again Inv-loop μ-loop
-loop-again c = c .before .before .before .turn .kept .0 ∙ c .before .before .before .before .before .before .before .loop .inv
+loop-again c = c .before .before .before .step .kept .0 ∙ c .before .before .before .before .before .before .before .loop .inv
 
 same-length : tie.Need-same-length Inv-loop μ-loop
 same-length c = c .before .loop .inv ∙ c .before .before .before .before .fill .kept .0
@@ -31,7 +32,7 @@ work-spec =
     (λ c κs. search needs)
     (λ c. refl)
     (λ c κs. search needs)
-    turn-requires
+    step-requires
     (λ c κs. search needs)
     (λ c. search needs)
     (λ c. search needs)

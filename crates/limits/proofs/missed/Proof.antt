@@ -1,3 +1,4 @@
+-- Each round sends one CA; the count of rounds ends the loop.
 use Prim.Native.Nat.{_-_, _≤_}
 use borrow.Author.Needs.{needs}
 use Rattle.limits.proofs.missed.Statement.{statement}

@@ -1,3 +1,4 @@
+-- Inside the slice the four octets are read where they lie; else octet by octet, those beyond are 0.
 use Prim.Native.Nat.{_+_}
 use native.Mathlib.Omega.{arith}
 use Rattle.octets.proofs.Read.{field4-past}

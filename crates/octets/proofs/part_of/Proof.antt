@@ -1,3 +1,4 @@
+-- The part is inside, or is cut off at the end, or begins past it.
 use Prim.Native.Nat.{_+_, _-_}
 use mathlib.Core.Path.{_≡_, sym, _∙_}
 use native.Mathlib.Omega.{arith}

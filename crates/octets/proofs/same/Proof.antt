@@ -1,3 +1,4 @@
+-- The loop keeps: what is left of both is the same exactly if the whole is.
 use mathlib.Core.Path.{_≡_, refl, sym, _∙_}
 use Prim.Native.Nat.{_-_, _≤_}
 use native.Mathlib.Omega.{arith}

@@ -1,3 +1,4 @@
+-- Four octets read one by one; those beyond the end are 0.
 use Rattle.octets.proofs.Read.{field4-read}
 use borrow.Author.Needs.{needs}
 use Rattle.octets.proofs.short_field4.Statement.{statement}

@@ -1,3 +1,4 @@
+-- Each round takes what was read behind what was left; what is left is shorter than a record.
 use mathlib.Core.Path.{_≡_, refl, _∙_}
 use native.Mathlib.Omega.{arith}
 use lib.ListN.{length}

@@ -1,3 +1,4 @@
+-- The loop keeps: the words so far are 0.
 use Rattle.table.proofs.TableLaws.{slot-words, all-zero}
 use lib.Seq.{getD-set-same, getD-set-other}
 use lib.ListN.{length, getD}

@@ -1,3 +1,4 @@
+-- Each part is what its word means.
 use Rattle.table.specs.Words.{slotIn}
 use borrow.Author.Needs.{needs}
 use Rattle.table.proofs.link_at.Statement.{statement}

@@ -1,3 +1,4 @@
+-- Each octet is what its word means.
 use Rattle.table.specs.Words.{slotIn}
 use borrow.Author.Needs.{needs}
 use Rattle.table.proofs.peer_at.Statement.{statement}

@@ -1,3 +1,4 @@
+-- The loop keeps: the words so far are copied, all others are as they were.
 use Rattle.table.proofs.TableLaws.{Copied, copied-none, copied-more, copied-slot}
 use native.Mathlib.Omega.{arith}
 use Prim.Native.Nat.{_-_, _≤_}

@@ -1,3 +1,4 @@
+-- Each word means its part, so the words mean the slot.
 use Rattle.table.proofs.TableLaws.{elements}
 use lib.ListN.{getD}
 use Rattle.laws.specs.Lists.{table}

@@ -1,3 +1,4 @@
+-- What is read fits the space that it is read into.
 use lib.ListN.{length}
 use mathlib.Core.Path.{_≡_}
 use native.Mathlib.Omega.{arith}

@@ -1,3 +1,4 @@
+-- The answer's numbers and octets, one line.
 use Rattle.laws.proofs.Lists.{take-short}
 use lib.ListN.{length}
 use Prim.Native.Nat.{_≤_}

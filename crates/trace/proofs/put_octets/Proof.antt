@@ -1,3 +1,4 @@
+-- Two digits an octet; the loop keeps the room for what is left.
 use lib.ListN.{length, length-set}
 use Prim.Native.Nat.{_+_, _-_, _*_, _≤_}
 use mathlib.Core.Path.{_≡_, refl}

@@ -1,3 +1,4 @@
+-- Each round takes one record; what is left gets shorter.
 use lib.ListN.{length}
 use Prim.Native.Nat.{_-_}
 use mathlib.Core.Path.{_≡_}

@@ -1,3 +1,4 @@
+-- The rows picked, the link moved, the summaries taken in and the CA sent, one after the other, are the rules' answer.
 use Rattle.actions.proofs.CaLaws.{answer-acts}
 use Rattle.slots.specs.State.{settingsOf, ruleOf}
 use Rattle.memory.specs.Memory.{memoryOf, requestsOf, keptOf}

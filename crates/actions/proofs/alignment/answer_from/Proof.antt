@@ -1,3 +1,4 @@
+-- Rule by rule: only a slot that enters Summarize starts at row 0.
 use borrow.Author.Needs.{needs}
 use Rattle.actions.proofs.alignment.answer_from.Statement.{statement}
 use Rattle.actions.proofs.alignment.answer_from.Tie as tie

@@ -1,3 +1,4 @@
+-- Rule by rule: those that answer are `answer`, the others by the law of their case.
 use Rattle.actions.proofs.CaLaws.{takes-answer, takes-quiet, takes-repeat, takes-done, takes-restart}
 use Rattle.actions.specs.Steps.{caPacketAt, answers}
 use Rattle.rules.specs.Links.{refuseCa, ignore}

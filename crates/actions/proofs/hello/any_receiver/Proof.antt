@@ -1,63 +1,47 @@
-use Rattle.actions.proofs.ReceiverLaws.{Near, none-left, none-found, receiver-less, receiver-near, receiver-is}
-use Rattle.wire.specs.Views.{receiversOf}
-use Rattle.laws.specs.Tables.{has, same}
-use mathlib.Core.Bool.{Bool, _||_}
-use mathlib.Core.Path.{_≡_, refl, sym, ap, _∙_}
+-- No receiver so far is us, so the answer for all is the answer for the rest: `left` receivers from `at` on.
+-- Assumes nothing.
 use native.Mathlib.Omega.{arith}
+use mathlib.Core.Path.{_≡_, refl, sym, ap, _∙_}
+use mathlib.Core.Bool.{Bool, _||_}
+use Prim.Native.Nat.{_+_, _-_, _*_, _≤_}
+use Rattle.laws.specs.Tables.{has, same}
+use Rattle.protocol.specs.Reading.{receiversAt}
+use Rattle.protocol.specs.Sizes.{idLength}
+use Rattle.actions.proofs.ReceiverLaws.{none-left, receiver-is}
 use borrow.Author.Needs.{needs}
 use Rattle.actions.proofs.hello.any_receiver.Statement.{statement}
 use Rattle.actions.proofs.hello.any_receiver.Tie as tie
 
 abbrev Inv-loop : tie.InvT-loop
-Inv-loop id p at₀ at = Near at × (has (same id) (receiversOf p at₀) ≡ has (same id) (receiversOf p at))
+Inv-loop id p at₀ left₀ at left =
+    (at + left * 65535 ≤ 1048576) × (has (same id) (receiversAt idLength p left₀ at₀) ≡ has (same id) (receiversAt idLength p left at))
 
 abbrev μ-loop : tie.MeasureT-loop
-μ-loop id p at₀ at = at .left
+μ-loop id p at₀ left₀ at left = left
 
 loop-holds : tie.Need-loop-holds Inv-loop μ-loop
 loop-holds c = (c .before .before .pre, refl)
 
 receiver-requires : tie.Need-receiver-requires Inv-loop μ-loop
-receiver-requires c κs = let h = c .before .before .loop .inv .0 in omega arith
+receiver-requires c κs = omega (arith, c .before .loop .inv .0)
 
 returns : tie.Need-returns Inv-loop μ-loop
 returns c =
-    let a = c .before .before .before .before .before .before .before .before .before .before .before .before .args in
-    let l = c .before .before .before .before .before .before .before .before .before .loop in
-    let r = c .before .before .before .before .before .before .receiver in
-    let g = c .before .before .before .before .place .given in
-    sym (l .inv .1 ∙ receiver-is (a .id .now) (a .p .now) (l .at) (r .result) (r .ensures) (g .0 .0) (g .0 .1 .0) (g .1) (c .before .before .part-of .result .now) (c .before .same .result) (c .before .before .part-of .ensures) (c .before .same .ensures) ∙ ap (λ (b : Bool). b || has (same (a .id .now)) (receiversOf (a .p .now) (g .0 .1 .0))) (c .if2 .taken))
-
-loop-less : tie.Need-loop-less Inv-loop μ-loop
-loop-less c =
-    let a = c .before .before .before .before .before .before .before .before .before .before .before .before .args in
-    let l = c .before .before .before .before .before .before .before .before .before .loop in
-    let r = c .before .before .before .before .before .before .receiver in
-    let g = c .before .before .before .before .place .given in
-    receiver-less (a .id .now) (a .p .now) (l .at) (r .result) (r .ensures) (g .0 .0) (g .0 .1 .0) (g .1)
+    let a = c .before .before .before .before .before .before .before .args in
+    let l = c .before .before .before .before .loop in
+    sym (l .inv .1 ∙ receiver-is (a .id .now) (a .p .now) (l .left) (l .at) (c .before .before .receiver .result .now) (c .before .same .result) (c .before .before .before .loop-test .taken) (c .before .before .receiver .ensures) (c .before .same .ensures) ∙ ap (λ (b : Bool). b || has (same (a .id .now)) (receiversAt idLength (a .p .now) (l .left - 1) (l .at + 5))) (c .if1 .taken))
 
 loop-again : tie.Need-loop-again Inv-loop μ-loop
 loop-again c =
-    let a = c .before .before .before .before .before .before .before .before .before .before .before .before .args in
-    let l = c .before .before .before .before .before .before .before .before .before .loop in
-    let r = c .before .before .before .before .before .before .receiver in
-    let g = c .before .before .before .before .place .given in (
-      receiver-near (a .id .now) (a .p .now) (l .at) (r .result) (r .ensures) (g .0 .0) (g .0 .1 .0) (g .1) (l .inv .0),
-      l .inv .1 ∙ receiver-is (a .id .now) (a .p .now) (l .at) (r .result) (r .ensures) (g .0 .0) (g .0 .1 .0) (g .1) (c .before .before .part-of .result .now) (c .before .same .result) (c .before .before .part-of .ensures) (c .before .same .ensures) ∙ ap (λ (b : Bool). b || has (same (a .id .now)) (receiversOf (a .p .now) (g .0 .1 .0))) (c .if2 .left),
-    )
+    let a = c .before .before .before .before .before .before .before .args in
+    let l = c .before .before .before .before .loop in
+    (omega (arith, l .inv .0, c .before .before .before .loop-test .taken), l .inv .1 ∙ receiver-is (a .id .now) (a .p .now) (l .left) (l .at) (c .before .before .receiver .result .now) (c .before .same .result) (c .before .before .before .loop-test .taken) (c .before .before .receiver .ensures) (c .before .same .ensures) ∙ ap (λ (b : Bool). b || has (same (a .id .now)) (receiversAt idLength (a .p .now) (l .left - 1) (l .at + 5))) (c .if1 .left))
 
 returns-2 : tie.Need-returns-2 Inv-loop μ-loop
 returns-2 c =
-    let a = c .before .before .before .before .before .before .before .before .args in
-    let l = c .before .before .before .before .before .loop in
-    let r = c .before .before .receiver in
-    sym (l .inv .1 ∙ none-found (a .id .now) (a .p .now) (l .at) (r .result) (r .ensures) (c .enum-told .given .1))
-
-returns-3 : tie.Need-returns-3 Inv-loop μ-loop
-returns-3 c =
-    let a = c .before .before .before .before .before .args in
-    let l = c .before .before .loop in
-    sym (l .inv .1 ∙ none-left (a .id .now) (a .p .now) (l .at) (c .if1 .left))
+    let a = c .before .before .before .before .args in
+    let l = c .before .loop in
+    sym (l .inv .1 ∙ none-left (a .id .now) (a .p .now) (l .left) (l .at) (c .loop-test .left))
 
 pub any-receiver-spec : {M : Type 1} → statement M
 any-receiver-spec =
@@ -67,12 +51,10 @@ any-receiver-spec =
     μ-loop
     loop-holds
     receiver-requires
-    (λ c. search needs)
-    (λ c κs. search needs)
     (λ c κs. search needs)
     returns
-    loop-less
-    loop-again
     (λ c. search needs)
-    returns-2
-    returns-3)
+    (λ c. search needs)
+    (λ c. search needs)
+    loop-again
+    returns-2)

@@ -1,17 +1,23 @@
-use Rattle.actions.proofs.MoveLaws.{moves-as}
+-- The numbers read from the packet are those of the move.
+use Rattle.actions.proofs.MoveLaws.{to-link}
+use Rattle.protocol.specs.Fields.{field2}
 use Rattle.rules.specs.Links.{helloMove}
-use mathlib.Core.Path.{_∙_}
+use Rattle.rules.specs.Packets.{namesUs}
+use Rattle.table.specs.Words.{slotIn}
+use Rattle.wire.specs.Views.{messageOf, receiversOf}
 use borrow.Author.Needs.{needs}
 use Rattle.actions.proofs.hello.take_hello.Statement.{statement}
 use Rattle.actions.proofs.hello.take_hello.Tie as tie
 
 returns : tie.Need-returns
 returns c =
-    let a = c .before .before .before .before .before .before .before .before .before .before .before .before .args in
-    let l = c .before .before .before .before .hello-move in
-    let m = c .before .before .move-link in
-    let e = l .ensures ∙ (λ z. helloMove (a .time) (c .before .before .before .before .before .before .before .interval .ensures z) (c .before .before .before .before .before .before .dead-factor .ensures z) (c .before .before .before .before .before .before .before .before .names-us .ensures z) (a .x .link)) in
-    moves-as (a .k) (l .result) (a .x) (a .memory .now) (m .last .0) (m .result) _ e (m .ensures)
+    let a = c .before .before .before .before .before .before .before .before .before .before .before .before .before .before .args in
+    let t = c .before .before .before .before .hear in
+    let p = a .p .now in
+    let l = slotIn (a .slots .now) (a .k) .link in
+    to-link (a .k) (a .slots .now) (t .last .0) (a .memory .now) (t .last .1 .0) (helloMove (a .time) (c .before .before .before .before .before .before .before .before .interval .result) (c .before .before .before .before .before .before .before .dead-factor .result) (c .before .before .before .before .before .before .before .before .before .names-us .result) l)
+    (helloMove (a .time) (field2 p 8) (field2 p 10) (namesUs (a .id .now) (messageOf p (a .h) .receiver) (receiversOf p (a .h .records))) l)
+    (λ z. helloMove (a .time) ((c .before .before .before .before .before .before .before .before .interval .ensures) z) ((c .before .before .before .before .before .before .before .dead-factor .ensures) z) ((c .before .before .before .before .before .before .before .before .before .names-us .ensures) z) l) (t .ensures)
 
 pub take-hello-spec : {M : Type 1} → statement M
 take-hello-spec =
@@ -21,6 +27,6 @@ take-hello-spec =
     (λ c κs. search needs)
     (λ c κs. search needs)
     (λ c κs. search needs)
-    (λ c κs. search needs)
+    (λ c. search needs)
     (λ c. search needs)
     returns)

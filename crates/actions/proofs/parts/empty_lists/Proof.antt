@@ -1,4 +1,4 @@
-use Rattle.memory.specs.Memory.{withKept}
+use Rattle.memory.specs.Memory.{keptPut}
 use mathlib.Core.List.{[]}
 use mathlib.Core.Path.{ap, _∙_}
 use borrow.Author.Needs.{needs}
@@ -6,7 +6,7 @@ use Rattle.actions.proofs.parts.empty_lists.Statement.{statement}
 use Rattle.actions.proofs.parts.empty_lists.Tie as tie
 
 returns : tie.Need-returns
-returns c = c .before .before .drop-kept .ensures ∙ ap (withKept (c .before .before .before .before .before .before .before .before .before .args .k) []) (c .before .before .before .before .before .before .empty .ensures)
+returns c = c .before .before .drop-kept .ensures ∙ ap (keptPut (c .before .before .before .before .before .before .before .before .before .args .k) []) (c .before .before .before .before .before .before .empty .ensures)
 
 pub empty-lists-spec : {M : Type 1} → statement M
 empty-lists-spec = tie.close (tie.spec (λ c κs. search needs) (λ c κs. search needs) (λ c. search needs) returns)

@@ -1,3 +1,5 @@
+-- Check, dropping and sending follow one another; `polled` has the rest.
+use mathlib.Core.Path.{_∙_}
 use Rattle.actions.proofs.PollLaws.{polled}
 use Rattle.slots.specs.State.{settingsOf}
 use borrow.Author.Needs.{needs}
@@ -5,17 +7,17 @@ use Rattle.actions.proofs.poll.poll_slot.Statement.{statement}
 use Rattle.actions.proofs.poll.poll_slot.Tie as tie
 
 send-requires : tie.Need-send-requires
-send-requires c κs = (search needs, c .before .before .due-of .ensures .rows)
+send-requires c κs = ((c .before .before .before .before .before .before .before .before .before .before .before .before .before .before .before .check .kept .0 ∙ c .before .before .before .before .before .before .before .before .before .before .before .before .before .before .before .before .before .before .before .before .before .pre .0, (search needs, c .before .before .before .before .before .before .before .before .before .before .before .before .before .before .before .before .before .before .before .before .before .pre .1 .1)), c .before .before .before .due-of .ensures .rows)
 
 returns : tie.Need-returns
 returns c =
-    let start = c .before .before .before .before .before .before .before .before .before .before .before .before .before .before .before .before .before .before .before in
+    let start = c .before .before .before .before .before .before .before .before .before .before .before .before .before .before .before .before .before .before .before .before .before .before .before .before .before .before .before .before in
     let a = start .args in
-    let y = c .before .before .before .before .before .before .before .before .before .before .before .before .before .before .before .check in
-    let o = c .before .before .before .before .before .before .before .before .before .before .before .drop-old in
-    let d = c .before .before .before .before .before .before .before .due-of in
-    let t = c .before .before .before .before .send in
-    polled (settingsOf (a .s)) (a .time) (a .k) (a .x) (y .result) (a .memory .now) (y .last .0) (o .last .0) (t .last .1 .0) (a .out .now) (t .last .1 .1 .1 .1 .1 .1 .0) (d .result) (t .result) (start .pre .1 .0) (y .ensures) (o .ensures) (d .ensures) (t .ensures)
+    let y = c .before .before .before .before .before .before .before .before .before .before .before .before .before .before .before .before .before .before .before .before .before .before .check in
+    let o = c .before .before .before .before .before .before .before .before .before .before .before .before .before .before .before .drop-old in
+    let d = c .before .before .before .before .before .before .before .before .before .before .due-of in
+    let t = c .before .before .before .before .before .before .send in
+    polled (settingsOf (a .s)) (a .time) (a .k) (a .slots .now) (y .last .0) (t .last .1 .0) (a .memory .now) (y .last .1 .0) (o .last .1 .0) (t .last .1 .1 .0) (a .out .now) (t .last .1 .1 .1 .1 .1 .1 .0) (d .result) (t .result) (start .pre .1 .1 .0) (y .ensures) (o .ensures) (d .ensures) (t .ensures)
 
 pub poll-slot-spec : {M : Type 1} → statement M
 poll-slot-spec =
@@ -25,6 +27,7 @@ poll-slot-spec =
     (λ c κs. search needs)
     (λ c κs. search needs)
     send-requires
+    (λ c. search needs)
     (λ c. search needs)
     (λ c. search needs)
     returns)

@@ -6,10 +6,12 @@ use Rattle.actions.proofs.poll.send.Tie as tie
 
 returns : tie.Need-returns
 returns c =
-    let a = c .before .before .before .before .before .before .before .before .before .before .args in
-    let w = c .before .before .before .before .before .write-due in
-    sends (a .d .due) (a .k) (a .time) (settingsOf (a .s)) (a .d .picks) (a .x) (c .slot-due .result) (a .memory .now) (w .last .1 .0) (a .out .now) (w .last .1 .1 .1 .1 .1 .0) (w .result) (c .before .before .before .before .before .before .before .before .before .before .pre .1) (w .ensures) (c .slot-due .ensures)
+    let a = c .before .before .before .before .before .before .before .before .before .before .before .before .before .before .before .args in
+    let w = c .before .before .before .before .before .before .before .before .write-due in
+    let p = c .before .before .put-due in
+    sends (a .d .due) (a .k) (a .time) (settingsOf (a .s)) (a .d .picks) (a .slots .now) (p .last .0) (a .memory .now) (w .last .1 .1 .0) (a .out .now) (w .last .1 .1 .1 .1 .1 .0) (w .result) (c .before .before .before .before .before .before .before .before .before .before .before .before .before .before .before .pre .1) (w .ensures) (p .ensures)
 
 pub send-spec : {M : Type 1} → statement M
 send-spec =
-    tie.close (tie.spec (λ c κs. search needs) (λ c κs. search needs) (λ c. search needs) (λ c. search needs) returns)
+    tie.close
+    (tie.spec (λ c κs. search needs) (λ c κs. search needs) (λ c. search needs) (λ c. search needs) (λ c. search needs) returns)

@@ -1,31 +1,26 @@
-use Rattle.actions.proofs.SendLaws.{wrote-as, csus-is}
-use Rattle.actions.specs.Parts.{slotWith}
+use Rattle.actions.proofs.SendLaws.{packet-as, csus-is}
+use Rattle.actions.specs.Steps.{commonOf, ourMessage}
+use Rattle.actions.specs.Parts.{slotNow}
+use Rattle.table.specs.Words.{slotIn}
 use Rattle.slots.specs.State.{settingsOf}
-use Rattle.writer.specs.Write.{csusMessage}
-use Rattle.rules.specs.Poll.{csusOf}
+use Rattle.memory.specs.Memory.{requestsIn}
+use Rattle.rules.specs.Poll.{requestRecord, csusOf}
 use Rattle.protocol.specs.Layouts.{packetOf}
+use Rattle.protocol.specs.Messages.{csus}
+use lib.ListN.{take}
+use mathlib.Core.List.{map}
+use mathlib.Core.Path.{_∙_, ap}
 use borrow.Author.Needs.{needs}
 use Rattle.actions.proofs.poll.send_csus.Statement.{statement}
 use Rattle.actions.proofs.poll.send_csus.Tie as tie
 
 returns : tie.Need-returns
-returns c =
-    let a = c .before .before .before .before .before .before .before .before .before .before .before .before .before .before .before .args in
-    let w = c .before .before .before .before .before .before .before .write-csus in
-    let head = c .before .before .before .before .before .before .before .before .before .before .before .common in
-    let q = c .before .before .before .before .before .before .before .before .before .first-requests in
-    record {
-      memory = c .before .before .rotate .ensures;
-      wrote =
-          wrote-as (packetOf (csusMessage (head .result) (q .result))) (packetOf (csusOf (settingsOf (a .s)) (slotWith (a .x) (a .k) (a .memory .now)))) (a .out .now) (w .last .0) (w .result) (c .before .before .before .before .size-of .result) (c .before .before .before .before .before .before .before .before .before .before .before .before .before .before .before .pre .1 .1) (w .ensures) (c .before .before .before .before .size-of .ensures)
-          (csus-is (a .s) (a .x) (a .k) (a .memory .now) (head .result) (head .ensures) (q .result) (c .before .before .before .before .before .before .before .before .before .before .before .before .before .before .before .pre .1 .0) (q .ensures));
-    }
+returns c = let a = c .before .before .before .before .before .before .before .before .before .before .before .before .before .before .args in let w = c .before .before .before .before .before .before .write-csus in let m = c .before .before .before .before .before .before .before .before .before .common in record { memory = c .before .before .rotate .ensures; wrote = packet-as (packetOf (ourMessage (m .result) (csus (map requestRecord (take 4 (requestsIn (a .memory .now) (a .k))))))) (packetOf (csusOf (settingsOf (a .s)) (slotNow (a .slots .now) (a .k) (a .memory .now)))) (a .out .now) (w .last .1 .1 .1 .0) (w .result) (w .ensures) (csus-is (a .s) (slotIn (a .slots .now) (a .k)) (a .k) (a .memory .now) (m .result) (m .ensures ∙ ap (commonOf (a .s)) (c .before .before .before .before .before .before .before .before .before .before .peer-at .ensures)) (c .before .before .before .before .before .before .before .before .before .before .before .before .before .before .pre .1 .1 .0)) }
 
 pub send-csus-spec : {M : Type 1} → statement M
 send-csus-spec =
     tie.close
     (tie.spec
-    (λ c κs. search needs)
     (λ c κs. search needs)
     (λ c κs. search needs)
     (λ c κs. search needs)

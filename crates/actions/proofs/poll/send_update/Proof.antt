@@ -1,30 +1,22 @@
-use Rattle.actions.proofs.SendLaws.{wrote-as, update-is}
-use Rattle.actions.specs.Parts.{slotWith}
+use Rattle.actions.proofs.SendLaws.{packet-as, update-is}
+use Rattle.actions.specs.Steps.{commonOf, ourMessage}
+use Rattle.actions.specs.Parts.{slotNow}
+use Rattle.table.specs.Words.{slotIn}
 use Rattle.slots.specs.State.{settingsOf}
-use Rattle.writer.specs.Write.{requestMessage}
+use Rattle.memory.specs.Marks.{picksOf}
 use Rattle.memory.specs.Memory.{rowsIn}
-use Rattle.rules.specs.Poll.{updateOf}
+use Rattle.rules.specs.Poll.{heldRecord, updateOf}
+use Rattle.rules.specs.Rows.{rowsOf}
 use Rattle.protocol.specs.Layouts.{packetOf}
+use Rattle.protocol.specs.Messages.{csuRequest}
+use mathlib.Core.Path.{_∙_, ap}
 use borrow.Author.Needs.{needs}
 use Rattle.actions.proofs.poll.send_update.Statement.{statement}
 use Rattle.actions.proofs.poll.send_update.Tie as tie
 
 returns : tie.Need-returns
-returns c =
-    let a = c .before .before .before .before .before .before .before .before .before .before .args in
-    let w = c .before .before .before .write-csu-request in
-    let head = c .before .before .before .before .before .before .common in
-    let q = c .before .before .before .before .before .picked in
-    wrote-as (packetOf (requestMessage (head .result) (q .result))) (packetOf (updateOf (settingsOf (a .s)) (rowsIn (a .memory .now)) (a .k) (slotWith (a .x) (a .k) (a .memory .now)))) (a .out .now) (w .last .0) (w .result) (c .size-of .result) (c .before .before .before .before .before .before .before .before .before .before .pre .1 .0) (w .ensures) (c .size-of .ensures)
-    (update-is (a .s) (a .x) (a .k) (a .memory .now) (head .result) (head .ensures) (q .result) (a .picks) (q .ensures) (c .before .before .before .before .before .before .before .before .before .before .pre .1 .1))
+returns c = let a = c .before .before .before .before .before .before .before .before .before .args in let w = c .before .before .write-update in let m = c .before .before .before .before .common in packet-as (packetOf (ourMessage (m .result) (csuRequest (rowsOf heldRecord (rowsIn (a .memory .now)) (picksOf (a .picks)))))) (packetOf (updateOf (settingsOf (a .s)) (rowsIn (a .memory .now)) (a .k) (slotNow (a .slots .now) (a .k) (a .memory .now)))) (a .out .now) (w .last .1 .1 .1 .0) (w .result) (w .ensures) (update-is (a .s) (slotIn (a .slots .now) (a .k)) (a .k) (a .memory .now) (m .result) (m .ensures ∙ ap (commonOf (a .s)) (c .before .before .before .before .before .peer-at .ensures)) (a .picks) (c .before .before .before .before .before .before .before .before .before .pre .1))
 
 pub send-update-spec : {M : Type 1} → statement M
 send-update-spec =
-    tie.close
-    (tie.spec
-    (λ c κs. search needs)
-    (λ c κs. search needs)
-    (λ c κs. search needs)
-    (λ c κs. search needs)
-    (λ c. search needs)
-    returns)
+    tie.close (tie.spec (λ c κs. search needs) (λ c κs. search needs) (λ c κs. search needs) (λ c. search needs) returns)

@@ -1,17 +1,30 @@
-use Rattle.actions.proofs.UpdateLaws.{csus-taken}
-use Rattle.wire.specs.Views.{recordsOf}
+-- The answers stand in out before the head is put; then the kept CA goes.
+use Rattle.actions.proofs.UpdateLaws.{solicited-within, csus-taken}
+use Rattle.actions.specs.Steps.{commonOf}
+use Rattle.memory.specs.Memory.{rowsIn}
+use mathlib.Core.Path.{ap, _∙_}
+use native.Mathlib.Omega.{arith}
 use borrow.Author.Needs.{needs}
 use Rattle.actions.proofs.updates.take_csus.Statement.{statement}
 use Rattle.actions.proofs.updates.take_csus.Tie as tie
 
+write-request-requires : tie.Need-write-request-requires
+write-request-requires c κs =
+    let a = c .before .before .before .before .before .before .before .before .before .before .before .before .before .args in
+    let q = c .before .before .before .before .before .before .before .before .before .before .before .before .before .pre in
+    let s = c .before .before .before .before .solicit-all in
+    let h = solicited-within (rowsIn (a .memory .now)) (a .p .now) (a .h .records) (a .out .now) (s .last .1 .1 .1 .0) (s .result) (q .1) (s .ensures) in
+    (q .1 .few, (h .0, (h .1, omega (arith, s .kept .1 .1 .1 .0, q .0 .1 .1))))
+
 returns : tie.Need-returns
 returns c =
-    let a = c .before .before .before .before .before .before .before .before .before .before .before .before .before .before .args in
-    let r = c .before .before .before .before .before .before .before .before .solicit-all in
+    let a = c .before .before .before .before .before .before .before .before .before .before .before .before .before .before .before .before .before .before .before .before .args in
+    let q = c .before .before .before .before .before .before .before .before .before .before .before .before .before .before .before .before .before .before .before .before .pre in
+    let s = c .before .before .before .before .before .before .before .before .before .before .before .solicit-all in
     let w = c .before .before .before .before .before .before .write-request in
+    let m = c .before .before .before .before .before .before .before .before .common in
     let d = c .before .before .drop-kept in
-    csus-taken (a .s) (a .k) (recordsOf (a .p .now) (a .h .records)) (a .memory .now) (d .last .0) (a .x) (r .result) (a .out .now) (w .last .1 .1 .1 .0) (w .result)
-    (r .ensures) (w .ensures) (d .ensures)
+    csus-taken (a .s) (a .k) (a .p .now) (a .h .records) (a .memory .now) (d .last .0) (a .slots .now) (m .result) (a .out .now) (s .last .1 .1 .1 .0) (w .last .1 .1 .1 .0) (s .result) (w .result) (q .0 .1 .1) (q .1) (m .ensures ∙ ap (commonOf (a .s)) (c .before .before .before .before .before .before .before .before .before .before .before .before .before .before .peer-at .ensures)) (s .ensures) (w .ensures) (d .ensures)
 
 pub take-csus-spec : {M : Type 1} → statement M
 take-csus-spec =
@@ -19,6 +32,8 @@ take-csus-spec =
     (tie.spec
     (λ c κs. search needs)
     (λ c κs. search needs)
+    (λ c κs. search needs)
+    write-request-requires
     (λ c κs. search needs)
     (λ c. search needs)
     (λ c. search needs)

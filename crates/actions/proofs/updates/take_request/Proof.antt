@@ -1,17 +1,25 @@
+-- Rows and requests first, the reply's head behind its records, then the alignment's word.
 use Rattle.actions.proofs.UpdateLaws.{request-taken}
-use Rattle.wire.specs.Views.{recordsOf}
+use Rattle.actions.specs.Steps.{commonOf}
 use Rattle.memory.specs.Memory.{isMarked}
+use Rattle.wire.specs.Views.{recordsOf}
+use mathlib.Core.Path.{ap, _∙_}
 use borrow.Author.Needs.{needs}
 use Rattle.actions.proofs.updates.take_request.Statement.{statement}
 use Rattle.actions.proofs.updates.take_request.Tie as tie
 
+put-completed-requires : tie.Need-put-completed-requires
+put-completed-requires c κs = (c .before .before .before .before .before .before .before .before .before .before .before .before .before .before .before .before .before .before .before .before .before .pre .0 .0 .0, (c .before .before .before .before .before .before .before .before .before .before .before .update-all .kept .0 ∙ c .before .before .before .before .before .before .before .before .before .before .before .before .before .before .before .before .before .before .before .before .before .pre .0 .0 .1, c .before .before .before .before .before .before .before .before .before .before .before .before .before .before .before .before .before .before .before .before .before .pre .0 .1 .0))
+
 returns : tie.Need-returns
 returns c =
-    let a = c .before .before .before .before .before .before .before .before .before .before .before .before .before .before .args in
-    let u = c .before .before .before .before .before .before .before .before .update-all in
-    let w = c .before .before .before .before .write-reply in
-    request-taken (isMarked (a .live)) (a .k) (recordsOf (a .p .now) (a .h .records)) (a .memory .now) (u .last .0) (u .result) (u .ensures)
-    (a .s) (a .x) (c .complete .result) (a .out .now) (w .last .1 .1 .1 .0) (w .result) (c .before .before .before .before .before .before .before .before .before .before .before .before .before .before .pre .0 .1 .0) (w .ensures) (c .complete .ensures)
+    let a = c .before .before .before .before .before .before .before .before .before .before .before .before .before .before .before .before .before .before .before .before .before .before .before .before .args in
+    let q = c .before .before .before .before .before .before .before .before .before .before .before .before .before .before .before .before .before .before .before .before .before .before .before .before .pre in
+    let u = c .before .before .before .before .before .before .before .before .before .before .before .before .before .before .update-all in
+    let w = c .before .before .before .before .before .before .before .write-reply in
+    let m = c .before .before .before .before .before .before .before .before .before .common in
+    let d = c .before .before .put-completed in
+    request-taken (isMarked (a .live)) (a .k) (recordsOf (a .p .now) (a .h .records)) (a .memory .now) (u .last .0) (u .ensures .0) (a .s) (a .slots .now) (d .last .0) (m .result) (u .result) (a .out .now) (u .last .1 .1 .1 .1 .1 .0) (w .last .1 .1 .1 .0) (w .result) (q .0 .1 .0) (q .0 .1 .1) (m .ensures ∙ ap (commonOf (a .s)) (c .before .before .before .before .before .before .before .before .before .before .before .before .before .before .before .before .before .peer-at .ensures)) (u .ensures .1) (w .ensures) (d .ensures)
 
 pub take-request-spec : {M : Type 1} → statement M
 take-request-spec =
@@ -20,6 +28,9 @@ take-request-spec =
     (λ c κs. search needs)
     (λ c κs. search needs)
     (λ c κs. search needs)
+    (λ c κs. search needs)
+    put-completed-requires
+    (λ c. search needs)
     (λ c. search needs)
     (λ c. search needs)
     returns)

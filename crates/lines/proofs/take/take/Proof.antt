@@ -1,3 +1,4 @@
+-- Kind of record by kind: the event that it says, or code 17.
 use mathlib.Core.Path.{refl}
 use Rattle.lines.proofs.LineLaws.{takes-event, takes-out, kind-1, kind-2, kind-3, kind-4, untimed}
 use borrow.Author.Needs.{needs}

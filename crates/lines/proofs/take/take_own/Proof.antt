@@ -1,3 +1,4 @@
+-- The three changes of ours, each with the octets that its record says.
 use Rattle.lines.proofs.LineLaws.{takes-event, takes-none, kind-5, kind-6, kind-7, kind-8, kind-none}
 use mathlib.Core.Path.{refl}
 use borrow.Author.Needs.{needs}

@@ -1,3 +1,4 @@
+-- The digits from the last to the first; the loop keeps the number that is left.
 use Rattle.lines.proofs.TextLaws.{few-digits}
 use Rattle.lines.proofs.TextLaws.{number-put}
 use native.Mathlib.Omega.{arith}

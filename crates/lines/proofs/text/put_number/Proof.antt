@@ -1,3 +1,4 @@
+-- By the number of digits, each of one to five in its own branch.
 use mathlib.Core.List.{[], _∷_}
 use Rattle.lines.proofs.TextLaws.{short-put, one-digit, two-digits, three-digits, four-digits, five-digits}
 use borrow.Author.Needs.{needs}

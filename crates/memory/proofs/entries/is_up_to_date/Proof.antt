@@ -1,6 +1,6 @@
+use Rattle.memory.specs.Memory.{entryNamed}
 use Rattle.memory.proofs.EntryLaws.{up-found, up-none}
 use Rattle.memory.proofs.RowInsert.{found-below}
-use Rattle.memory.specs.Search.{entry}
 use Rattle.rules.specs.Server.{holds}
 use mathlib.Core.Path.{sym, _∙_}
 use borrow.Author.Needs.{needs}
@@ -9,20 +9,20 @@ use Rattle.memory.proofs.entries.is_up_to_date.Tie as tie
 
 number-of-requires : tie.Need-number-of-requires
 number-of-requires c κs =
-    let a = c .before .before .before .before .before .before .before .args in
+    let a = c .before .before .before .before .before .before .args in
     let i = c .before .i .given in
-    (c .before .before .before .before .before .before .before .pre .0, found-below (holds (entry (a .key .now) (a .originator .now))) (a .memory .now) (i .0 .0) (sym (c .before .before .before .find .ensures) ∙ i .1))
+    (c .before .before .before .before .before .before .pre .0, found-below (holds (entryNamed (a .name .now))) (a .memory .now) (i .0 .0) (sym (c .before .before .before .find .ensures) ∙ i .1))
 
 returns : tie.Need-returns
 returns c =
-    let a = c .before .before .before .before .before .before .before .before .before .args in
+    let a = c .before .before .before .before .before .before .before .before .args in
     let i = c .before .before .before .i .given in
-    up-found (entry (a .key .now) (a .originator .now)) (a .memory .now) (a .number) (c .before .number-of .result) (c .newer .result) (i .0 .0) (sym (c .before .before .before .before .before .find .ensures) ∙ i .1) (c .before .number-of .ensures) (c .newer .ensures)
+    up-found (entryNamed (a .name .now)) (a .memory .now) (a .number) (c .before .number-of .result) (c .newer .result) (i .0 .0) (sym (c .before .before .before .before .before .find .ensures) ∙ i .1) (c .before .number-of .ensures) (c .newer .ensures)
 
 returns-2 : tie.Need-returns-2
 returns-2 c =
-    let a = c .before .before .before .before .before .before .args in
-    up-none (entry (a .key .now) (a .originator .now)) (a .memory .now) (a .number) (sym (c .before .before .find .ensures) ∙ c .enum-told .given .1)
+    let a = c .before .before .before .before .before .args in
+    up-none (entryNamed (a .name .now)) (a .memory .now) (a .number) (sym (c .before .before .find .ensures) ∙ c .enum-told .given .1)
 
 pub is-up-to-date-spec : {M : Type 1} → statement M
 is-up-to-date-spec =

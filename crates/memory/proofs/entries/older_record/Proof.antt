@@ -15,7 +15,7 @@ returns : tie.Need-returns
 returns c =
     let a = c .before .before .before .before .before .before .before .before .args in
     let i = c .before .before .before .before .before .found .given in
-    found-marked (a .found) (a .memory .now) (waitsAgain (a .k)) (i .0 .0) (c .before .before .mark-again .last .0) (i .1) (c .before .before .mark-again .ensures)
+    found-marked (a .found) (a .memory .now) (waitsAgain (a .k)) (i .0 .0) (c .before .before .mark-again .last .0) (i .1) (c .before .before .mark-again .ensures .0)
 
 returns-2 : tie.Need-returns-2
 returns-2 c =

@@ -1,21 +1,31 @@
+-- The row of the entry, where it is found, is marked by its number.
+use Rattle.memory.specs.Memory.{entryNamed}
 use Rattle.rules.specs.Updates.{replied}
-use Rattle.memory.proofs.EntryLaws.{entry-marked, entry-absent, found-kept}
+use Rattle.memory.proofs.EntryLaws.{found-marked, found-absent, entry-by}
 use Rattle.memory.proofs.RowInsert.{found-below}
-use Rattle.memory.specs.Search.{entry}
 use Rattle.rules.specs.Server.{holds}
-use mathlib.Core.Path.{refl, sym, _∙_}
+use mathlib.Core.Path.{sym, _∙_}
 use borrow.Author.Needs.{needs}
 use Rattle.memory.proofs.entries.reply_record.Statement.{statement}
 use Rattle.memory.proofs.entries.reply_record.Tie as tie
 
 reply-mark-requires : tie.Need-reply-mark-requires
-reply-mark-requires c κs = let a = c .before .before .before .before .before .before .before .before .before .args in let i = c .before .before .i .given in let h = found-below (holds (entry (a .key .now) (a .originator .now))) (a .memory .now) (i .0 .0) (sym (c .before .before .before .before .find .ensures) ∙ i .1) in (c .before .before .before .before .before .before .before .before .before .pre .0 .0, (h, c .before .before .before .before .before .before .before .before .before .pre .0 .1))
+reply-mark-requires c κs = let a = c .before .before .before .before .before .before .before .before .args in let i = c .before .before .i .given in let h = found-below (holds (entryNamed (a .name .now))) (a .memory .now) (i .0 .0) (sym (c .before .before .before .before .find .ensures) ∙ i .1) in (c .before .before .before .before .before .before .before .before .pre .0 .0, (h, c .before .before .before .before .before .before .before .before .pre .0 .1))
 
 returns : tie.Need-returns
-returns c = let a = c .before .before .before .before .before .before .before .before .before .before .before .before .args in let i = c .before .before .before .before .before .i .given in (entry-marked (entry (a .key .now) (a .originator .now)) (a .memory .now) (i .0 .0) (sym (c .before .before .before .before .before .before .before .find .ensures) ∙ i .1) (replied (a .k) (a .number)) (c .before .before .reply-mark .last .0) (c .before .before .reply-mark .ensures), found-kept (entry (a .key .now) (a .originator .now)) (a .memory .now) (i .0 .0) (sym (c .before .before .before .before .before .before .before .find .ensures) ∙ i .1) (c .before .before .reply-mark .last .0))
+returns c =
+    let a = c .before .before .before .before .before .before .before .before .before .before .before .args in
+    let i = c .before .before .before .before .before .i .given in
+    let f = c .before .before .before .before .before .before .before .find in
+    entry-by (f .result) (a .memory .now) (replied (a .k) (a .number)) (entryNamed (a .name .now)) (c .before .before .reply-mark .last .0) (f .ensures)
+    (found-marked (f .result) (a .memory .now) (replied (a .k) (a .number)) (i .0 .0) (c .before .before .reply-mark .last .0) (i .1) (c .before .before .reply-mark .ensures .0))
 
 returns-2 : tie.Need-returns-2
-returns-2 c = let a = c .before .before .before .before .before .before .before .args in (entry-absent (entry (a .key .now) (a .originator .now)) (a .memory .now) (sym (c .before .before .find .ensures) ∙ c .enum-told .given .1) (replied (a .k) (a .number)), λ h. refl)
+returns-2 c =
+    let a = c .before .before .before .before .before .before .args in
+    let f = c .before .before .find in
+    entry-by (f .result) (a .memory .now) (replied (a .k) (a .number)) (entryNamed (a .name .now)) (a .memory .now) (f .ensures)
+    (found-absent (f .result) (a .memory .now) (replied (a .k) (a .number)) (c .enum-told .given .1))
 
 pub reply-record-spec : {M : Type 1} → statement M
 reply-record-spec =

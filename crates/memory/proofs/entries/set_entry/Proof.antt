@@ -1,7 +1,7 @@
+-- The row that was found gets the next number; where none was, a new one is inserted.
 use Rattle.memory.proofs.RowInsert.{found-below}
 use Rattle.memory.proofs.EntryLaws.{entry-held, entry-new}
-use Rattle.memory.specs.Search.{entry}
-use Rattle.memory.specs.Memory.{isMarked}
+use Rattle.memory.specs.Memory.{entryNamed, isMarked}
 use Rattle.rules.specs.Updates.{changedRow, newRow}
 use Rattle.rules.specs.Server.{holds}
 use mathlib.Core.Path.{sym, _∙_}
@@ -11,21 +11,21 @@ use Rattle.memory.proofs.entries.set_entry.Tie as tie
 
 change-row-requires : tie.Need-change-row-requires
 change-row-requires c κs =
-    let a = c .before .before .before .before .before .before .before .before .args in
-    let p = c .before .before .before .before .before .before .before .before .pre in
+    let a = c .before .before .before .before .before .before .before .args in
+    let p = c .before .before .before .before .before .before .before .pre in
     let i = c .before .before .found .given in
-    (p .0 .0, (found-below (holds (entry (a .key .now) (a .originator .now))) (a .memory .now) (i .0 .0) (sym (p .1) ∙ i .1), p .0 .1 .payload-fits))
+    (p .0 .0, (found-below (holds (entryNamed (a .name .now))) (a .memory .now) (i .0 .0) (sym (p .1) ∙ i .1), p .0 .1 .1))
 
 returns : tie.Need-returns
 returns c =
-    let a = c .before .before .before .before .before .before .before .before .before .before .before .args in
+    let a = c .before .before .before .before .before .before .before .before .before .before .args in
     let i = c .before .before .before .before .before .found .given in
-    entry-held (entry (a .key .now) (a .originator .now)) (a .memory .now) (i .0 .0) (sym (c .before .before .before .before .before .before .before .before .before .before .before .pre .1) ∙ i .1) (changedRow (isMarked (a .live)) (a .payload .now)) (c .before .before .change-row .last .0) (newRow (isMarked (a .live)) (entry (a .key .now) (a .originator .now)) (a .payload .now)) (c .before .before .change-row .ensures)
+    entry-held (entryNamed (a .name .now)) (a .memory .now) (i .0 .0) (sym (c .before .before .before .before .before .before .before .before .before .before .pre .1) ∙ i .1) (changedRow (isMarked (a .live)) (a .payload .now)) (c .before .before .change-row .last .0) (newRow (isMarked (a .live)) (entryNamed (a .name .now)) (a .payload .now)) (c .before .before .change-row .ensures)
 
 returns-2 : tie.Need-returns-2
 returns-2 c =
-    let a = c .before .before .before .before .before .before .before .before .before .before .args in
-    entry-new (entry (a .key .now) (a .originator .now)) (a .memory .now) (sym (c .before .before .before .before .before .before .before .before .before .before .pre .1) ∙ c .before .before .before .before .enum-told .given .1) (changedRow (isMarked (a .live)) (a .payload .now)) (c .before .before .insert .last .0) (newRow (isMarked (a .live)) (entry (a .key .now) (a .originator .now)) (a .payload .now)) (c .before .before .insert .ensures .rows)
+    let a = c .before .before .before .before .before .before .before .before .before .args in
+    entry-new (entryNamed (a .name .now)) (a .memory .now) (sym (c .before .before .before .before .before .before .before .before .before .pre .1) ∙ c .before .before .before .before .enum-told .given .1) (changedRow (isMarked (a .live)) (a .payload .now)) (c .before .before .insert .last .0) (newRow (isMarked (a .live)) (entryNamed (a .name .now)) (a .payload .now)) (c .before .before .insert .ensures .rows)
 
 pub set-entry-spec : {M : Type 1} → statement M
 set-entry-spec =

@@ -1,3 +1,4 @@
+-- The row that was found changes; where none was, no octet does.
 use Rattle.memory.proofs.EntryLaws.{found-index, found-changed, found-absent}
 use Rattle.memory.specs.Memory.{isMarked}
 use Rattle.rules.specs.Updates.{changedRow}

@@ -1,3 +1,4 @@
+-- So far the octet has the marks of the rows before i.
 use lib.Bits.{bitOr}
 use mathlib.Core.Path.{refl}
 use Prim.Native.Nat.{_-_}

@@ -1,3 +1,4 @@
+-- So far the rows before i wait no more.
 use Rattle.memory.proofs.RowLoops.{front, changed-none, changed-more, changed-all}
 use Rattle.memory.specs.Memory.{rowsIn, memoryOf, withRows}
 use Rattle.rules.specs.Rows.{unmarked}

@@ -1,4 +1,5 @@
-use mathlib.Core.Path.{sym, _∙_}
+use mathlib.Core.Path.{_≡_, refl, sym, _∙_}
+use Rattle.memory.specs.Memory.{valueAt}
 use Rattle.rules.specs.Updates.{waitsAgain}
 use Rattle.memory.specs.Marks.{marked}
 use Rattle.memory.proofs.MarkLaws.{changed-as, changed-not, again-not, again-so}
@@ -10,13 +11,14 @@ returns : tie.Need-returns
 returns c =
     let a = c .before .before .before .before .args in
     let s = a .memory .now in
-    changed-not (waitsAgain (a .k)) s (a .i) (again-not s (a .i) (c .before .before .before .before .pre .1 .0) (a .k) (sym (c .before .remaining-of .ensures) ∙ c .if1 .taken))
+    (changed-not (waitsAgain (a .k)) s (a .i) (again-not s (a .i) (c .before .before .before .before .pre .1 .0) (a .k) (sym (c .before .remaining-of .ensures) ∙ c .if1 .taken)), λ z. refl)
 
 returns-2 : tie.Need-returns-2
 returns-2 c =
     let a = c .before .before .before .before .before .before .before .before .args in
     let s = a .memory .now in
-    c .before .before .set-mark .ensures ∙ changed-as (marked (a .k)) (waitsAgain (a .k)) s (a .i) (again-so s (a .i) (c .before .before .before .before .before .before .before .before .pre .1 .0) (a .k) (λ z. c .before .before .before .before .if1 .left (c .before .before .before .before .before .remaining-of .ensures ∙ z)))
+    let some : valueAt s (a .i) .remaining ≡ 0 → ⊥ = λ z. c .before .before .before .before .if1 .left (c .before .before .before .before .before .remaining-of .ensures ∙ z) in
+    (c .before .before .set-mark .ensures ∙ changed-as (marked (a .k)) (waitsAgain (a .k)) s (a .i) (again-so s (a .i) (c .before .before .before .before .before .before .before .before .pre .1 .0) (a .k) some), λ z. absurd (some z))
 
 pub mark-again-spec : {M : Type 1} → statement M
 mark-again-spec =

@@ -1,3 +1,4 @@
+-- A case for each k.
 use mathlib.Core.Path.{_≡_, sym, ap}
 use Prim.Native.Nat.{ℕ, _^_}
 use Rattle.memory.proofs.Bits.{seven}

@@ -1,7 +1,8 @@
-use mathlib.Core.Path.{sym, _∙_}
+-- A number that is newer or older changes nothing; an equal one takes the mark away.
+use mathlib.Core.Path.{refl, sym, _∙_}
 use Rattle.rules.specs.Rows.{unmarked}
 use Rattle.rules.specs.Updates.{replied}
-use Rattle.memory.proofs.MarkLaws.{changed-as, changed-not, replied-newer, replied-older, replied-same}
+use Rattle.memory.proofs.MarkLaws.{changed-as, changed-not, replied-newer, replied-older, replied-same, not-differing}
 use borrow.Author.Needs.{needs}
 use Rattle.memory.proofs.marks.reply_mark.Statement.{statement}
 use Rattle.memory.proofs.marks.reply_mark.Tie as tie
@@ -9,24 +10,30 @@ use Rattle.memory.proofs.marks.reply_mark.Tie as tie
 returns : tie.Need-returns
 returns c =
     let a = c .before .before .before .before .before .args in
-    let s = a .memory .now in
-    changed-not (replied (a .k) (a .number)) s (a .i)
-    (replied-newer s (a .i) (c .before .before .before .before .before .pre .1 .0) (a .k) (a .number) (c .before .before .number-of .result) (c .before .before .number-of .ensures) (sym (c .before .newer .ensures) ∙ c .if1 .taken))
+    let s = a .memory .now in (
+      changed-not (replied (a .k) (a .number)) s (a .i)
+          (replied-newer s (a .i) (c .before .before .before .before .before .pre .1 .0) (a .k) (a .number) (c .before .before .number-of .result) (c .before .before .number-of .ensures) (sym (c .before .newer .ensures) ∙ c .if1 .taken)),
+      λ z. refl,
+    )
 
 returns-2 : tie.Need-returns-2
 returns-2 c =
     let a = c .before .before .before .before .before .before .before .args in
-    let s = a .memory .now in
-    changed-not (replied (a .k) (a .number)) s (a .i)
-    (replied-older s (a .i) (c .before .before .before .before .before .before .before .pre .1 .0) (a .k) (a .number) (c .before .before .before .before .number-of .result) (c .before .before .before .before .number-of .ensures) (sym (c .before .before .before .newer .ensures) ∙ c .before .before .if1 .left) (sym (c .before .newer2 .ensures) ∙ c .if2 .taken))
+    let s = a .memory .now in (
+      changed-not (replied (a .k) (a .number)) s (a .i)
+          (replied-older s (a .i) (c .before .before .before .before .before .before .before .pre .1 .0) (a .k) (a .number) (c .before .before .before .before .number-of .result) (c .before .before .before .before .number-of .ensures) (sym (c .before .before .before .newer .ensures) ∙ c .before .before .if1 .left) (sym (c .before .newer2 .ensures) ∙ c .if2 .taken)),
+      λ z. refl,
+    )
 
 returns-3 : tie.Need-returns-3
 returns-3 c =
     let a = c .before .before .before .before .before .before .before .before .before .before .before .args in
-    let s = a .memory .now in
-    c .before .before .clear-mark .ensures
-    ∙ changed-as (unmarked (a .k)) (replied (a .k) (a .number)) s (a .i)
-    (replied-same s (a .i) (c .before .before .before .before .before .before .before .before .before .before .before .pre .1 .0) (a .k) (a .number) (c .before .before .before .before .before .before .before .before .number-of .result) (c .before .before .before .before .before .before .before .before .number-of .ensures) (sym (c .before .before .before .before .before .before .before .newer .ensures) ∙ c .before .before .before .before .before .before .if1 .left) (sym (c .before .before .before .before .before .newer2 .ensures) ∙ c .before .before .before .before .if2 .left))
+    let s = a .memory .now in (
+      c .before .before .clear-mark .ensures
+          ∙ changed-as (unmarked (a .k)) (replied (a .k) (a .number)) s (a .i)
+          (replied-same s (a .i) (c .before .before .before .before .before .before .before .before .before .before .before .pre .1 .0) (a .k) (a .number) (c .before .before .before .before .before .before .before .before .number-of .result) (c .before .before .before .before .before .before .before .before .number-of .ensures) (sym (c .before .before .before .before .before .before .before .newer .ensures) ∙ c .before .before .before .before .before .before .if1 .left) (sym (c .before .before .before .before .before .newer2 .ensures) ∙ c .before .before .before .before .if2 .left)),
+      λ z. absurd (not-differing s (a .i) (c .before .before .before .before .before .before .before .before .before .before .before .pre .1 .0) (a .k) (a .number) (c .before .before .before .before .before .before .before .before .number-of .result) (c .before .before .before .before .before .before .before .before .number-of .ensures) (sym (c .before .before .before .before .before .before .before .newer .ensures) ∙ c .before .before .before .before .before .before .if1 .left) (sym (c .before .before .before .before .before .newer2 .ensures) ∙ c .before .before .before .before .if2 .left) z),
+    )
 
 pub reply-mark-spec : {M : Type 1} → statement M
 reply-mark-spec =

@@ -1,3 +1,4 @@
+-- So far no row from `from` up to `at` is used.
 use Rattle.memory.proofs.Picking.{some-end, some-hit, some-miss}
 use Rattle.memory.specs.Memory.{rowsIn}
 use Rattle.rules.specs.Rows.{usedFrom}

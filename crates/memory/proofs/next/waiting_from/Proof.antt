@@ -1,3 +1,4 @@
+-- So far those picked and what is left of the round from `place` on are the next four from `from` on.
 use Rattle.memory.proofs.Picking.{Gone, go-on, picked-full, picked-end}
 use Rattle.memory.specs.Memory.{rowsIn}
 use Rattle.rules.specs.Rows.{nextWaiting}

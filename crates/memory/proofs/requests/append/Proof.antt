@@ -5,7 +5,7 @@ use Rattle.memory.proofs.requests.append.Statement.{statement}
 use Rattle.memory.proofs.requests.append.Tie as tie
 
 returns : tie.Need-returns
-returns c = then-sized (c .before .before .before .before .before .before .put-request .ensures) (c .before .before .set-count .last .0) (c .before .before .before .before .before .before .before .before .before .before .before .args .n + 1) (c .before .before .set-count .ensures)
+returns c = then-sized (c .before .before .before .before .before .before .put-request .ensures) (c .before .before .set-count .last .0) (c .before .before .before .before .before .before .before .before .before .before .args .n + 1) (c .before .before .set-count .ensures)
 
 pub append-spec : {M : Type 1} → statement M
 append-spec =

@@ -1,6 +1,5 @@
 use Rattle.memory.proofs.RequestSteps.{goes-dropped, goes-none}
-use Rattle.memory.specs.Search.{entry}
-use Rattle.memory.specs.Memory.{memoryOf, requestsOf}
+use Rattle.memory.specs.Memory.{entryNamed, memoryOf, requestsOf}
 use Rattle.protocol.specs.Numbers.{csaNumber}
 use lib.IntN.{pos}
 use borrow.Author.Needs.{needs}
@@ -9,10 +8,10 @@ use Rattle.memory.proofs.requests.drop_entry.Tie as tie
 
 returns : tie.Need-returns
 returns c =
-    let a = c .before .before .before .before .before .before .before .args in
-    let e = entry (a .key .now) (a .originator .now) in
+    let a = c .before .before .before .before .before .before .args in
+    let e = entryNamed (a .name .now) in
     let m = memoryOf (a .memory .now) in
-    let q = c .before .before .sift in
+    let q = c .before .before .remove in
     (goes-dropped (a .k) e (csaNumber (pos 0)) m (memoryOf (q .last .0)) (q .ensures .0), λ h. q .ensures .1 (goes-none e (csaNumber (pos 0)) (requestsOf m (a .k)) h))
 
 pub drop-entry-spec : {M : Type 1} → statement M

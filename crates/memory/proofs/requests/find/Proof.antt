@@ -1,49 +1,55 @@
-use Rattle.memory.proofs.RequestSteps.{find-hit, find-miss}
-use Rattle.memory.proofs.RequestLists.{place-none, place-end}
-use Rattle.memory.specs.Search.{entry}
-use Rattle.memory.specs.Lists.{placeOf, noRequest}
-use Rattle.memory.specs.Memory.{requestsIn}
+-- None before the first tag is for the entry; from there on so far none before i is.
+use Rattle.memory.proofs.RequestLists.{Passed}
 use Rattle.rules.specs.Requests.{asks}
-use lib.ListN.{drop}
+use Rattle.memory.specs.Memory.{entryNamed, requestsIn}
+use Rattle.memory.specs.Lists.{noRequest}
 use native.Mathlib.Omega.{arith}
-use Prim.Native.Nat.{_+_, _-_, _≤_}
-use mathlib.Core.Path.{_≡_, _∙_}
+use Prim.Native.Nat.{_-_}
+use Rattle.memory.proofs.RequestSteps.{find-from, find-hit, find-miss, find-end}
 use borrow.Author.Needs.{needs}
 use Rattle.memory.proofs.requests.find.Statement.{statement}
 use Rattle.memory.proofs.requests.find.Tie as tie
 
 abbrev Inv-loop : tie.InvT-loop
-Inv-loop memory k key originator n i₀ i = (i ≤ n) × (placeOf (asks (entry key originator)) (requestsIn memory k) ≡ i + placeOf (asks (entry key originator)) (drop i (requestsIn memory k)))
+Inv-loop memory k n name t i₀ i = Passed (asks (entryNamed name)) noRequest (requestsIn memory k) i
 
 abbrev μ-loop : tie.MeasureT-loop
-μ-loop memory k key originator n i₀ i = n - i
+μ-loop memory k n name t i₀ i = n - i
+
+first-octet-requires : tie.Need-first-octet-requires Inv-loop μ-loop
+first-octet-requires c κs = omega (arith, c .tag-place .ensures, c .before .before .before .pre .0)
 
 loop-holds : tie.Need-loop-holds Inv-loop μ-loop
 loop-holds c =
     let a = c .before .before .before .before .args in
-    (omega arith, place-none (asks (entry (a .key .now) (a .originator .now))) noRequest (requestsIn (a .memory .now) (a .k)))
+    let p = c .before .before .before .before .pre in
+    find-from (a .memory .now) (a .k) (a .n) (c .first-octet .result) (a .name .now) (p .0 .1 .0) (a .t) (c .before .tag-place .result) (p .0 .0) (p .0 .1 .1) (p .1 .0) (p .1 .1 .0) (p .1 .1 .1) (c .before .tag-place .ensures .0) (c .first-octet .ensures)
 
 asks-requires : tie.Need-asks-requires Inv-loop μ-loop
-asks-requires c κs = (c .before .before .before .before .before .before .pre .0, (omega (arith, c .before .before .count .ensures), c .before .before .before .before .before .before .pre .1))
+asks-requires c κs =
+    let p = c .before .before .before .before .before .before .pre in
+    ((p .0 .0, (omega (arith, p .1 .1 .1, c .loop-test .taken), p .0 .1 .1)), (p .1 .0, p .1 .1 .0))
 
 returns : tie.Need-returns Inv-loop μ-loop
 returns c =
     let a = c .before .before .before .before .before .before .before .before .args in
+    let p = c .before .before .before .before .before .before .before .before .pre in
     let l = c .before .before .before .loop in
-    find-hit (a .memory .now) (a .k) (c .before .before .before .before .count .result) (l .i) (entry (a .key .now) (a .originator .now)) (c .before .asks .result) (c .before .before .before .before .count .ensures .0) (l .inv .1) (c .before .before .loop-test .taken) (c .before .asks .ensures) (c .if1 .taken)
+    find-hit (a .memory .now) (a .k) (a .n) (l .i) (a .name .now) (p .0 .1 .0) (c .before .asks .result) (l .inv) (c .before .before .loop-test .taken) (c .before .asks .ensures) (c .if1 .taken)
 
 loop-again : tie.Need-loop-again Inv-loop μ-loop
 loop-again c =
     let a = c .before .before .before .before .before .before .before .before .args in
+    let p = c .before .before .before .before .before .before .before .before .pre in
     let l = c .before .before .before .loop in
-    (omega arith, find-miss (a .memory .now) (a .k) (c .before .before .before .before .count .result) (l .i) (entry (a .key .now) (a .originator .now)) (c .before .asks .result) (c .before .before .before .before .count .ensures .0) (l .inv .1) (c .before .before .loop-test .taken) (c .before .asks .ensures) (c .if1 .left))
+    find-miss (a .memory .now) (a .k) (a .n) (l .i) (a .name .now) (p .0 .1 .0) (c .before .asks .result) (l .inv) (c .before .before .loop-test .taken) (c .before .asks .ensures) (c .if1 .left)
 
 returns-2 : tie.Need-returns-2 Inv-loop μ-loop
 returns-2 c =
     let a = c .before .before .before .before .before .before .args in
+    let p = c .before .before .before .before .before .before .pre in
     let l = c .before .loop in
-    let n = c .before .before .count .ensures .0 in
-    n ∙ place-end (asks (entry (a .key .now) (a .originator .now))) noRequest (requestsIn (a .memory .now) (a .k)) (l .i) (omega arith) (omega arith) (l .inv .1)
+    find-end (a .memory .now) (a .k) (a .n) (l .i) (a .name .now) (p .0 .1 .0) (l .inv) (c .loop-test .left)
 
 pub find-spec : {M : Type 1} → statement M
 find-spec =
@@ -52,6 +58,8 @@ find-spec =
     Inv-loop
     μ-loop
     (λ c κs. search needs)
+    first-octet-requires
+    (λ c. search needs)
     loop-holds
     asks-requires
     returns

@@ -1,18 +1,28 @@
-use Rattle.memory.proofs.RoomReads.{room-is}
-use Rattle.memory.specs.Lists.{requestOf, roomsIn, noRequest}
-use Rattle.memory.specs.Layout.{listPlace}
-use Rattle.protocol.specs.Fields.{field2}
+use mathlib.Core.Path.{ap, _∙_}
+use Prim.Native.Nat.{ℕ}
 use lib.ListN.{getD}
+use Rattle.protocol.specs.Fields.{field2}
+use Rattle.memory.specs.Layout.{listPlace}
+use Rattle.memory.specs.Lists.{requestOf, roomsIn, noRequest}
+use Rattle.memory.proofs.RoomReads.{room-is}
 use borrow.Author.Needs.{needs}
 use Rattle.memory.proofs.room.copy_request.Statement.{statement}
 use Rattle.memory.proofs.room.copy_request.Tie as tie
 
 returns : tie.Need-returns
 returns c =
-    let a = c .before .before .before .before .before .before .before .before .args in
+    let a = c .before .before .before .before .before .before .before .before .before .before .args in
     let s = a .memory .now in
-    room-is (a .k) (field2 s (listPlace (a .k))) (a .to) (roomsIn s (a .k)) s (c .before .before .lay .last .0) (requestOf (c .before .before .before .before .before .lift .result)) (getD (roomsIn s (a .k)) (a .from) noRequest) (c .before .before .before .before .before .lift .ensures .1) (c .before .before .lay .ensures)
+    let q = c .before .before .before .before .before .room-octets in
+    room-is (a .k) (field2 s (listPlace (a .k))) (a .to) (roomsIn s (a .k)) s (c .before .before .put-room .last .0) (requestOf (c .before .before .before .before .before .before .before .tag-at .result) (q .result)) (getD (roomsIn s (a .k)) (a .from) noRequest) (ap (λ (t : ℕ). requestOf t (q .result)) (c .before .before .before .before .before .before .before .tag-at .ensures) ∙ q .ensures .1) (c .before .before .put-room .ensures)
 
 pub copy-request-spec : {M : Type 1} → statement M
 copy-request-spec =
-    tie.close (tie.spec (λ c κs. search needs) (λ c. search needs) (λ c κs. search needs) (λ c. search needs) returns)
+    tie.close
+    (tie.spec
+    (λ c κs. search needs)
+    (λ c κs. search needs)
+    (λ c. search needs)
+    (λ c κs. search needs)
+    (λ c. search needs)
+    returns)

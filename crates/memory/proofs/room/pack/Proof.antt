@@ -1,19 +1,19 @@
-use Rattle.memory.proofs.RoomReads.{packed}
-use Rattle.laws.specs.Puts.{putAt}
-use native.Mathlib.Omega.{arith}
-use Prim.Native.Nat.{ℕ}
-use mathlib.Core.List.{List}
 use mathlib.Core.Path.{ap, _∙_}
+use mathlib.Core.List.{List}
+use Prim.Native.Nat.{ℕ}
+use native.Mathlib.Omega.{arith}
+use Rattle.laws.specs.Puts.{putAt}
+use Rattle.memory.proofs.RoomReads.{packed}
 use borrow.Author.Needs.{needs}
 use Rattle.memory.proofs.room.pack.Statement.{statement}
 use Rattle.memory.proofs.room.pack.Tie as tie
 
 returns : tie.Need-returns
 returns c =
-    let a = c .before .before .before .before .before .before .args in
-    (c .put-in2 .ensures .0, packed (a .key .now) (a .originator .now) (a .number) (c .before .before .before .before .before .before .pre .0) (c .before .before .before .before .before .before .pre .1) (c .before .before .before .bits-of .result) (c .before .put-in .result) (c .put-in2 .result) (record { sfits = c .before .before .before .before .before .before .good .1 .1 .0 .1 .1 .0 .1 }) (omega arith) (c .before .before .before .bits-of .ensures) (c .before .put-in .ensures .1 ∙ ap (λ (z : List ℕ). putAt z 8 (a .originator .now)) (c .before .before .head .ensures)) (c .put-in2 .ensures .1))
+    let a = c .before .before .before .before .args in
+    let p = c .before .before .before .before .pre in
+    (c .put-in .ensures .0, packed (a .name .now) (a .number) (p .0) (p .1) (c .before .before .bits-of .result) (c .put-in .result) (record { sfits = c .before .before .before .before .good .1 .0 .1 .1 .0 .1 }) (omega arith) (c .before .before .bits-of .ensures) (c .put-in .ensures .1 ∙ ap (λ (z : List ℕ). putAt z 8 (a .name .now)) (c .before .head .ensures)))
 
 pub pack-spec : {M : Type 1} → statement M
 pack-spec =
-    tie.close
-    (tie.spec (λ c. search needs) (λ c κs. search needs) (λ c κs. search needs) (λ c κs. search needs) (λ c κs. search needs) returns)
+    tie.close (tie.spec (λ c. search needs) (λ c. search needs) (λ c κs. search needs) (λ c κs. search needs) (λ c κs. search needs) returns)

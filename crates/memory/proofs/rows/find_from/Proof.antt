@@ -1,3 +1,4 @@
+-- So far no row from `from` up to i holds the entry.
 use Rattle.memory.specs.Memory.{entryNamed}
 use Rattle.rules.specs.Server.{holds}
 use Prim.Native.Nat.{_-_}

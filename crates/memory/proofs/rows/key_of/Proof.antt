@@ -1,13 +1,14 @@
-use Rattle.memory.specs.Memory.{rowEntry}
-use lib.Seq.{take-append-seam}
-use lib.ListN.{take}
 use mathlib.Core.Path.{_∙_}
+use Rattle.memory.proofs.RowPlaces.{entry-key}
 use borrow.Author.Needs.{needs}
 use Rattle.memory.proofs.rows.key_of.Statement.{statement}
 use Rattle.memory.proofs.rows.key_of.Tie as tie
 
 returns : tie.Need-returns
-returns c = let a = c .before .before .before .before .args in let e = rowEntry (a .memory .now) (a .i) in c .first .ensures ∙ (λ z. take (c .before .before .key-len .ensures .0 z) (c .before .entry-of .ensures z)) ∙ take-append-seam (e .key) (e .originator)
+returns c =
+    let a = c .before .before .before .args in
+    let p = c .before .before .before .pre in
+    c .first .ensures ∙ entry-key (a .memory .now) (a .i) (p .0) (p .1) (c .before .entry-of .result .now) (c .before .entry-of .ensures .0)
 
 pub key-of-spec : {M : Type 1} → statement M
-key-of-spec = tie.close (tie.spec (λ c κs. search needs) (λ c κs. search needs) (λ c κs. search needs) returns)
+key-of-spec = tie.close (tie.spec (λ c κs. search needs) (λ c. search needs) (λ c κs. search needs) returns)

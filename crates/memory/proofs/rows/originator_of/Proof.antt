@@ -1,13 +1,14 @@
-use Rattle.memory.specs.Memory.{rowEntry}
-use lib.Seq.{drop-append-seam}
-use lib.ListN.{drop}
 use mathlib.Core.Path.{_∙_}
+use Rattle.memory.proofs.RowPlaces.{entry-originator}
 use borrow.Author.Needs.{needs}
 use Rattle.memory.proofs.rows.originator_of.Statement.{statement}
 use Rattle.memory.proofs.rows.originator_of.Tie as tie
 
 returns : tie.Need-returns
-returns c = let a = c .before .before .before .before .args in let e = rowEntry (a .memory .now) (a .i) in c .tail .ensures ∙ (λ z. drop (c .before .before .key-len .ensures .0 z) (c .before .entry-of .ensures z)) ∙ drop-append-seam (e .key) (e .originator)
+returns c =
+    let a = c .before .before .before .args in
+    let p = c .before .before .before .pre in
+    c .tail .ensures ∙ entry-originator (a .memory .now) (a .i) (p .0) (p .1) (c .before .entry-of .result .now) (c .before .entry-of .ensures .0)
 
 pub originator-of-spec : {M : Type 1} → statement M
-originator-of-spec = tie.close (tie.spec (λ c κs. search needs) (λ c κs. search needs) (λ c κs. search needs) returns)
+originator-of-spec = tie.close (tie.spec (λ c κs. search needs) (λ c. search needs) (λ c κs. search needs) returns)

@@ -1,3 +1,4 @@
+-- So far the used rows before i are counted.
 use Prim.Native.Nat.{_-_}
 use Rattle.memory.proofs.RowReads.{Counted, counted-none, counted-more, counted-all}
 use borrow.Author.Needs.{needs}

@@ -1,3 +1,4 @@
+-- So far no row before both best and i is to be freed.
 use native.Mathlib.Omega.{arith}
 use Prim.Native.Nat.{_-_}
 use Rattle.memory.proofs.RowSweep.{LastTo, last-start, last-more, last-all}

@@ -1,4 +1,4 @@
-use Rattle.memory.proofs.RowPuts.{row-freed}
+use Rattle.memory.proofs.RowWhole.{row-freed}
 use Rattle.memory.specs.Memory.{memoryOf}
 use mathlib.Core.Path.{ap, _∙_}
 use borrow.Author.Needs.{needs}

@@ -1,3 +1,4 @@
+-- So far the octets before i are zero; of such octets nothing is left.
 use Rattle.memory.proofs.RowSweep.{ZerosTo, zeros-none, zeros-more, zeros-all}
 use lib.ListN.{length}
 use native.Mathlib.Omega.{arith}

@@ -1,39 +1,30 @@
-use Rattle.memory.proofs.RowInsert.{found-below, insert-stored, insert-full}
-use Rattle.memory.proofs.NameLaws.{named-entry}
-use Rattle.memory.specs.Search.{entry, withRow}
-use Rattle.memory.specs.Memory.{isMarked}
+-- The row found is the lowest free one, and is put; without one nothing changes.
+use mathlib.Core.Path.{sym, _∙_}
+use Rattle.rules.specs.Server.{isFree, used}
 use Rattle.rules.specs.Updates.{value}
-use Rattle.rules.specs.Server.{Entry, isFree, used}
-use lib.ListN.{length, length-append}
-use native.Mathlib.Omega.{arith}
-use mathlib.Core.Path.{sym, ap, _∙_}
+use Rattle.memory.specs.Memory.{entryNamed, isMarked}
+use Rattle.memory.proofs.RowInsert.{found-below, insert-stored, insert-full}
 use borrow.Author.Needs.{needs}
 use Rattle.memory.proofs.store.insert.Statement.{statement}
 use Rattle.memory.proofs.store.insert.Tie as tie
 
-of-entry-requires : tie.Need-of-entry-requires
-of-entry-requires c κs = let p = c .before .before .before .before .before .before .before .before .before .pre .1 in ((p .some-key, p .key-fits), p .originator-fits)
-
 put-row-requires : tie.Need-put-row-requires
 put-row-requires c κs =
-    let a = c .before .before .before .before .before .before .before .before .before .before .before .before .before .before .args in
-    let p = c .before .before .before .before .before .before .before .before .before .before .before .before .before .before .pre in
-    let i = c .before .before .before .before .before .before .i .given in
-    let n = ap length (c .first .ensures ∙ c .before .before .before .before .of-entry .ensures .0) ∙ length-append (a .key .now) (a .originator .now) in
-    ((p .0, found-below isFree (a .memory .now) (i .0 .0) (sym (c .before .before .before .before .before .before .before .before .free-row .ensures) ∙ i .1)), ((omega (arith, n, p .1 .some-key, p .1 .originator-fits), omega (arith, n, p .1 .key-fits, p .1 .originator-fits)), p .1 .payload-fits))
+    let a = c .before .before .before .before .before .before .before .before .before .args in
+    let p = c .before .before .before .before .before .before .before .before .before .pre in
+    let i = c .before .before .i .given in
+    ((p .0, found-below isFree (a .memory .now) (i .0 .0) (sym (c .before .before .before .before .free-row .ensures) ∙ i .1)), p .1)
 
 returns : tie.Need-returns
 returns c =
-    let a = c .before .before .before .before .before .before .before .before .before .before .before .before .before .before .before .before .before .args in
-    let p = c .before .before .before .before .before .before .before .before .before .before .before .before .before .before .before .before .before .pre in
-    let i = c .before .before .before .before .before .before .before .before .before .i .given in
-    let named = named-entry (a .key .now) (a .originator .now) (c .before .before .before .first .result .now) (p .1 .originator-fits) (c .before .before .before .first .ensures ∙ c .before .before .before .before .before .before .before .of-entry .ensures .0) in
-    insert-stored (a .memory .now) (c .before .before .put-row .last .0) (i .0 .0) (entry (a .key .now) (a .originator .now)) (value (a .number) (a .payload .now) (a .remaining)) (isMarked (a .marks)) (sym (c .before .before .before .before .before .before .before .before .before .before .before .free-row .ensures) ∙ i .1) (c .before .before .put-row .ensures ∙ ap (λ (e : Entry). withRow (a .memory .now) (i .0 .0) (used e (value (a .number) (a .payload .now) (a .remaining)) (isMarked (a .marks)))) named)
+    let a = c .before .before .before .before .before .before .before .before .before .before .before .before .args in
+    let i = c .before .before .before .before .before .i .given in
+    insert-stored (a .memory .now) (c .before .before .put-row .last .0) (i .0 .0) (entryNamed (a .name .now)) (value (a .number) (a .payload .now) (a .remaining)) (isMarked (a .marks)) (sym (c .before .before .before .before .before .before .before .free-row .ensures) ∙ i .1) (c .before .before .put-row .ensures .0)
 
 returns-2 : tie.Need-returns-2
 returns-2 c =
-    let a = c .before .before .before .before .before .before .before .before .args in
-    insert-full (a .memory .now) (used (entry (a .key .now) (a .originator .now)) (value (a .number) (a .payload .now) (a .remaining)) (isMarked (a .marks))) (sym (c .before .before .free-row .ensures) ∙ c .enum-told .given .1)
+    let a = c .before .before .before .before .before .before .before .args in
+    insert-full (a .memory .now) (used (entryNamed (a .name .now)) (value (a .number) (a .payload .now) (a .remaining)) (isMarked (a .marks))) (sym (c .before .before .free-row .ensures) ∙ c .enum-told .given .1)
 
 pub insert-spec : {M : Type 1} → statement M
 insert-spec =
@@ -41,9 +32,6 @@ insert-spec =
     (tie.spec
     (λ c κs. search needs)
     (λ c. search needs)
-    of-entry-requires
-    (λ c. search needs)
-    (λ c κs. search needs)
     put-row-requires
     (λ c. search needs)
     (λ c. search needs)

@@ -1,3 +1,4 @@
+-- A top octet, key length or mark tells that the row is kept; else its number decides.
 use Rattle.memory.proofs.RowSweep.{kept-free, kept-waiting, kept-number, purged-free}
 use Rattle.memory.specs.Layout.{markPlace}
 use Rattle.rules.specs.Rows.{isPurged}

@@ -1,3 +1,4 @@
+-- A put of the first octets, then a store in each of two sections.
 use Rattle.memory.specs.Layout.{rowPlace, topPlace, markPlace}
 use Rattle.laws.specs.Puts.{putAt}
 use native.Mathlib.Omega.{arith}

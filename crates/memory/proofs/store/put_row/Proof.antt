@@ -1,4 +1,4 @@
-use Rattle.memory.proofs.RowPuts.{row-put}
+use Rattle.memory.proofs.RowWhole.{row-put}
 use Rattle.laws.specs.Puts.{putAt}
 use Prim.Native.Nat.{ℕ}
 use mathlib.Core.Path.{ap, _∙_}

@@ -1,3 +1,4 @@
+-- So far the rows before i are swept; those before the first that may be freed are as they were.
 use mathlib.Core.Path.{_≡_, refl, _∙_}
 use Prim.Native.Nat.{_-_}
 use lib.ListN.{length}

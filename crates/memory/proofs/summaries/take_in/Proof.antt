@@ -1,5 +1,5 @@
+use Rattle.memory.specs.Memory.{entryNamed}
 use Rattle.memory.proofs.TakenIn.{taken-none, taken-joins}
-use Rattle.memory.specs.Search.{entry}
 use mathlib.Core.Path.{sym, _∙_}
 use borrow.Author.Needs.{needs}
 use Rattle.memory.proofs.summaries.take_in.Statement.{statement}
@@ -7,15 +7,15 @@ use Rattle.memory.proofs.summaries.take_in.Tie as tie
 
 returns : tie.Need-returns
 returns c =
-    let a = c .before .before .before .before .before .before .args in
-    taken-none (a .memory .now) (a .k) (entry (a .key .now) (a .originator .now)) (a .number) (a .missed) (sym (c .before .is-up-to-date .ensures) ∙ c .if1 .taken)
+    let a = c .before .before .before .before .before .args in
+    taken-none (a .memory .now) (a .k) (entryNamed (a .name .now)) (a .number) (a .missed) (sym (c .before .is-up-to-date .ensures) ∙ c .if1 .taken)
 
 returns-2 : tie.Need-returns-2
 returns-2 c =
-    let a = c .before .before .before .before .before .before .before .before .before .before .args in
+    let a = c .before .before .before .before .before .before .before .before .before .args in
     let up = c .before .before .before .before .before .is-up-to-date in
     let j = c .before .before .join in
-    taken-joins (a .memory .now) (a .k) (entry (a .key .now) (a .originator .now)) (a .number) (a .missed) (j .last .0) (j .result) (sym (up .ensures) ∙ c .before .before .before .before .if1 .left) (j .ensures)
+    taken-joins (a .memory .now) (a .k) (entryNamed (a .name .now)) (a .number) (a .missed) (j .last .0) (j .result) (sym (up .ensures) ∙ c .before .before .before .before .if1 .left) (j .ensures)
 
 pub take-in-spec : {M : Type 1} → statement M
 take-in-spec =

@@ -1,3 +1,4 @@
+-- So far best is the first place before i that has the octet.
 use mathlib.Core.Path.{_≡_}
 use Rattle.memory.proofs.FirstLaws.{FirstTo, first-none, octet-more, first-octet}
 use Rattle.protocol.specs.Fields.{octet}

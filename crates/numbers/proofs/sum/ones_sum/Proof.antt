@@ -1,3 +1,4 @@
+-- The sum of the words, swapped and folded, is the ones' complement sum.
 use mathlib.Core.Path.{_≡_, ap, _∙_}
 use Prim.Native.Nat.{ℕ, _*_}
 use native.Mathlib.Omega.{arith}

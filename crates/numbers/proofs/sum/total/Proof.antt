@@ -1,3 +1,4 @@
+-- The loop keeps: 256 times the sum, up to multiples of 65535, is what the words so far add up to.
 use mathlib.Core.Path.{_≡_}
 use Prim.Native.Nat.{_+_, _-_, _*_, _/_, _≤_}
 use lib.ListN.{length, drop}

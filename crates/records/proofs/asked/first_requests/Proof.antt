@@ -1,43 +1,37 @@
-use Prim.Native.Nat.{_-_}
+-- The first i requests were put; four at most, so there is room for one more.
+use Rattle.records.proofs.AskedLaws.{Asking, asking-none, asking-all, asking-room, asking-more}
 use native.Mathlib.Omega.{arith}
-use Rattle.writer.specs.Write.{recordOf, recordsOf}
-use Rattle.records.proofs.AskedLaws.{Asking, asking-none, asking-more, asking-all}
+use Prim.Native.Nat.{_-_}
 use borrow.Author.Needs.{needs}
 use Rattle.records.proofs.asked.first_requests.Statement.{statement}
 use Rattle.records.proofs.asked.first_requests.Tie as tie
 
 abbrev Inv-loop : tie.InvT-loop
-Inv-loop memory k n r₀ i₀ r i = Asking memory k n i (r .count) (recordsOf r)
+Inv-loop memory k out₀ count next₀ i₀ out next i = Asking memory k count out₀ out next i
 
 abbrev μ-loop : tie.MeasureT-loop
-μ-loop memory k n r₀ i₀ r i = n - i
+μ-loop memory k out₀ count next₀ i₀ out next i = count - i
 
 count-requires : tie.Need-count-requires Inv-loop μ-loop
-count-requires c κs = (c .before .pre .1, c .before .pre .0)
+count-requires c κs = (c .before .before .pre .0 .1, c .before .before .pre .0 .0)
 
 at-most-four-requires : tie.Need-at-most-four-requires Inv-loop μ-loop
 at-most-four-requires c κs = tt
 
-none-requires : tie.Need-none-requires Inv-loop μ-loop
-none-requires c κs = tt
-
 loop-holds : tie.Need-loop-holds Inv-loop μ-loop
-loop-holds c = asking-none (c .before .before .before .before .args .memory .now) (c .before .before .before .before .args .k) (c .before .at-most-four .result) (c .none .result .count) (recordsOf (c .none .result)) (c .none .ensures .0) (c .none .ensures .1)
+loop-holds c = let a = c .before .before .before .before .args in asking-none (a .memory .now) (a .k) (c .at-most-four .result) (a .out .now)
 
-request-value-requires : tie.Need-request-value-requires Inv-loop μ-loop
-request-value-requires c κs = (c .before .before .before .before .before .before .pre .0, (c .before .before .before .before .before .before .pre .1, omega arith))
+put-request-requires : tie.Need-put-request-requires Inv-loop μ-loop
+put-request-requires c κs = let a = c .before .before .before .before .before .before .before .args in let w = c .before .before .before .before .before .before .before .pre in let l = c .before .before .loop in let m = c .before .before .before .at-most-four in let n = c .before .before .before .before .count in ((w .0 .0, (w .0 .1, omega (arith, m .ensures, c .before .loop-test .taken))), asking-room (a .memory .now) (a .k) (m .result) (a .out .now) (n .result) (n .ensures .0) (m .ensures) (l .out) (l .next) (l .i) (l .inv) (c .before .loop-test .taken) (w .1))
 
 loop-again : tie.Need-loop-again Inv-loop μ-loop
-loop-again c =
-    let a = c .before .before .before .before .before .before .before .before .args in
-    let l = c .before .before .before .loop in
-    asking-more (a .memory .now) (a .k) (c .before .before .before .before .before .at-most-four .result) (l .i) (l .r .count) (c .push .result .count) (c .before .before .before .before .before .before .count .result) (recordsOf (l .r)) (recordsOf (c .push .result)) (recordOf (c .before .request-value .result)) (c .before .before .before .before .before .before .count .ensures .0) (c .before .before .before .before .before .at-most-four .ensures) (c .before .before .loop-test .taken) (l .inv) (c .before .request-value .ensures) (c .push .ensures .0) (c .push .ensures .1)
+loop-again c = let a = c .before .before .before .before .before .before .before .before .before .before .args in let w = c .before .before .before .before .before .before .before .before .before .before .pre in let l = c .before .before .before .before .before .loop in let m = c .before .before .before .before .before .before .at-most-four in let n = c .before .before .before .before .before .before .before .count in let q = c .before .before .put-request in asking-more (a .memory .now) (a .k) (m .result) (a .out .now) (n .result) (n .ensures .0) (m .ensures) (l .out) (l .next) (l .i) (l .inv) (c .before .before .before .before .loop-test .taken) (w .1) (q .last .1 .1 .1 .0) (q .result) (q .kept .1 .1 .1 .0) (q .ensures)
+
+same-length : tie.Need-same-length Inv-loop μ-loop
+same-length c = c .before .loop .inv .long
 
 returns : tie.Need-returns Inv-loop μ-loop
-returns c =
-    let a = c .before .before .before .before .before .before .args in
-    let l = c .before .loop in
-    asking-all (a .memory .now) (a .k) (c .before .before .before .at-most-four .result) (l .i) (l .r .count) (c .before .before .before .before .count .result) (recordsOf (l .r)) (c .before .before .before .before .count .ensures .0) (c .before .before .before .at-most-four .ensures) (c .loop-test .left) (l .inv)
+returns c = let a = c .before .before .before .before .before .before .args in let l = c .before .loop in let m = c .before .before .at-most-four in let n = c .before .before .before .count in asking-all (a .memory .now) (a .k) (m .result) (a .out .now) (n .result) (n .ensures .0) (m .ensures) (l .out) (l .next) (l .i) (l .inv) (c .loop-test .left)
 
 pub first-requests-spec : {M : Type 1} → statement M
 first-requests-spec =
@@ -47,11 +41,10 @@ first-requests-spec =
     μ-loop
     count-requires
     at-most-four-requires
-    none-requires
     loop-holds
-    request-value-requires
-    (λ c κs. search needs)
+    put-request-requires
     (λ c. search needs)
     (λ c. search needs)
     loop-again
+    same-length
     returns)

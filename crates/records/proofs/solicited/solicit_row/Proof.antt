@@ -1,20 +1,17 @@
-use Rattle.protocol.specs.Numbers.{newer}
-use mathlib.Core.Path.{sym, ap, _∙_}
+use Rattle.records.proofs.SolicitedLaws.{answer-null, answer-held}
+use Rattle.records.proofs.PutLaws.{puts-as}
+use Rattle.protocol.specs.Messages.{CsaRecord}
+use mathlib.Core.List.{[], _∷_}
+use mathlib.Core.Path.{ap}
 use borrow.Author.Needs.{needs}
 use Rattle.records.proofs.solicited.solicit_row.Statement.{statement}
 use Rattle.records.proofs.solicited.solicit_row.Tie as tie
 
 returns : tie.Need-returns
-returns c =
-    let a = c .before .before .before .before .before .before .args in
-    let told = sym (c .before .before .newer .ensures ∙ ap (newer (a .v .number)) (c .before .before .before .number-of .ensures)) ∙ c .before .if1 .taken in
-    c .null-value .ensures ∙ rw told
+returns c = let a = c .before .before .before .before .before .before .before .before .before .before .args in let q = c .before .before .put-null in let n = c .before .before .before .before .before .newer in let h = c .before .before .before .before .before .before .number-of in λ v x. puts-as 64 (a .at) (a .out .now) (q .last .0) (q .result) (ap (λ (r : CsaRecord). r ∷ []) (answer-null (a .memory .now) v (a .name .now) (a .number) (h .result) x (a .i) (h .ensures) (n .result) (n .ensures) (c .before .before .before .before .if1 .taken))) (q .ensures v x)
 
 returns-2 : tie.Need-returns-2
-returns-2 c =
-    let a = c .before .before .before .before .before .before .args in
-    let told = sym (c .before .before .newer .ensures ∙ ap (newer (a .v .number)) (c .before .before .before .number-of .ensures)) ∙ c .before .if1 .left in
-    c .row-value .ensures ∙ rw told
+returns-2 c = let a = c .before .before .before .before .before .before .before .before .before .before .args in let q = c .before .before .put-row in let n = c .before .before .before .before .before .newer in let h = c .before .before .before .before .before .before .number-of in λ v x. puts-as 64 (a .at) (a .out .now) (q .last .1 .1 .1 .0) (q .result) (ap (λ (r : CsaRecord). r ∷ []) (answer-held (a .memory .now) v (a .name .now) (a .number) (h .result) x (a .i) (h .ensures) (n .result) (n .ensures) (c .before .before .before .before .if1 .left))) (q .ensures)
 
 pub solicit-row-spec : {M : Type 1} → statement M
 solicit-row-spec =
@@ -23,6 +20,8 @@ solicit-row-spec =
     (λ c κs. search needs)
     (λ c κs. search needs)
     (λ c κs. search needs)
+    (λ c. search needs)
     returns
     (λ c κs. search needs)
+    (λ c. search needs)
     returns-2)

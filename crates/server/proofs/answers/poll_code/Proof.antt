@@ -1,3 +1,4 @@
+-- The link's code if there is one; then the room, then the link.
 use Prim.Native.Nat.{_<_}
 use Rattle.protocol.specs.declared.HelloState.{HelloState}
 use Rattle.server.proofs.CodeLaws.{poll-stops, poll-goes}

@@ -1,3 +1,4 @@
+-- The loop keeps: the marks of the slots seen so far are those that are live.
 use Rattle.server.proofs.LiveLaws.{liveBelow, below-none, below-more, below-all}
 use Rattle.memory.specs.Memory.{isMarked}
 use mathlib.Core.Path.{_≡_}

@@ -1,6 +1,8 @@
-use Rattle.server.proofs.LinkLaws.{down-leaves, does-silent}
+-- Refused as the link's code says; else the slot moves to Down and the event ends.
+use Rattle.server.proofs.LinkLaws.{does-silent, down-leaves}
 use Rattle.server.proofs.DoesLaws.{link-taken, does-refused}
 use Rattle.server.specs.State.{serverOf}
+use Rattle.table.specs.Words.{slotIn}
 use Rattle.rules.specs.Events.{linkDown, codeOf}
 use mathlib.Core.Path.{refl, _∙_}
 use Prim.Native.Nat.{_<_}
@@ -13,14 +15,14 @@ told c =
     let a = c .before .before .before .before .before .before .args in
     link-taken (serverOf (a .s) (a .slots .now) (a .memory .now)) (a .k) (a .time) (c .before .before .link-code .result) (c .before .before .link-code .ensures (a .memory .now)) (c .enum-told .given .1)
 
-slot-at-requires : tie.Need-slot-at-requires
-slot-at-requires c κs = (search needs, told (c .before .before))
+alignment-at-requires : tie.Need-alignment-at-requires
+alignment-at-requires c κs = (search needs, told (c .before))
 
-down-requires : tie.Need-down-requires
-down-requires c κs = (search needs, told (c .before .before .before))
+move-to-requires : tie.Need-move-to-requires
+move-to-requires c κs = (c .before .before .before .before .before .before .before .before .before .before .pre .0, (c .before .before .before .before .before .before .before .before .before .before .pre .1, told (c .before .before .before .before)))
 
 taken-requires : tie.Need-taken-requires
-taken-requires c κs = (c .before .before .before .before .before .before .before .before .before .before .before .before .before .before .before .pre .0, (c .before .before .before .before .before .down .kept .0 ∙ c .before .before .before .before .before .before .before .before .before .before .before .before .before .before .before .pre .1, told (c .before .before .before .before .before .before .before .before .before)))
+taken-requires c κs = (c .before .before .before .before .before .before .move-to .kept .0 ∙ c .before .before .before .before .before .before .before .before .before .before .before .before .before .before .before .before .before .pre .0, (c .before .before .before .before .before .before .move-to .kept .1 .0 ∙ c .before .before .before .before .before .before .before .before .before .before .before .before .before .before .before .before .before .pre .1, told (c .before .before .before .before .before .before .before .before .before .before .before)))
 
 returns : tie.Need-returns
 unfolding codeOf
@@ -33,8 +35,10 @@ unfolding codeOf
 returns-2 c =
     let a = c .before .before .before .before .before .before .before .before .before .before .before .before .before .before .before .before .before .before .before .before .args in
     let o = c .before .before .before .before .before .before .before .before .before .before .before .before .before .before .before .before .link-code in
-    let x = c .before .before .before .before .before .before .before .before .before .before .before .slot-at in
-    does-silent (linkDown (a .k) (a .time)) (a .s) (a .slots .now) (c .before .before .before .before .taken .last .1 .0) (a .k) (a .time) (x .result) (c .before .before .before .before .before .before .before .before .before .before .down .result) (a .memory .now) (c .before .before .before .before .before .before .before .before .before .before .down .last .0) (c .before .before .before .before .taken .last .1 .1 .0) (o .result) (c .before .before .before .before .before .silent .result) (c .before .before .before .before .taken .result) (told (c .before .before .before .before .before .before .before .before .before .before .before .before .before .before)) refl refl refl refl (o .ensures (a .memory .now)) (c .before .before .before .before .before .before .before .before .before .before .before .before .before .before .enum-told .given .1) (x .ensures) (down-leaves (a .k) (x .result) (a .memory .now) (c .before .before .before .before .before .before .before .before .before .before .down .last .0) (c .before .before .before .before .before .before .before .before .before .before .down .result) (c .before .before .before .before .before .before .before .before .before .before .down .ensures)) (c .before .before .before .before .before .silent .ensures) (c .before .before .before .before .taken .ensures)
+    let u = c .before .before .before .before .before .before .before .before .before .move-to in
+    let d = c .before .before .taken in
+    let from = c .before .before .before .before .before .before .before .before .before .before .before .before .alignment-at in
+    does-silent (linkDown (a .k) (a .time)) (a .s) (a .slots .now) (u .last .0) (a .k) (a .time) (a .memory .now) (u .last .1 .0) (d .last .1 .1 .0) (o .result) (from .result) (d .result) (told (c .before .before .before .before .before .before .before .before .before .before .before .before .before .before)) refl refl refl refl (o .ensures (a .memory .now)) (c .before .before .before .before .before .before .before .before .before .before .before .before .before .before .enum-told .given .1) (from .ensures) (u .ensures .others) (down-leaves (a .k) (slotIn (a .slots .now) (a .k)) (a .memory .now) (u .last .1 .0) (slotIn (u .last .0) (a .k)) (u .ensures .moves)) (d .ensures .0) (d .ensures .1)
 
 pub link-down-spec : {M : Type 1} → statement M
 link-down-spec =
@@ -44,9 +48,8 @@ link-down-spec =
     (λ c. search needs)
     (λ c κs. search needs)
     (λ c. search needs)
-    slot-at-requires
-    down-requires
-    (λ c κs. search needs)
+    alignment-at-requires
+    move-to-requires
     taken-requires
     (λ c. search needs)
     returns

@@ -1,3 +1,4 @@
+-- Refused as the link's code says; else the slot moves up and the event ends.
 use Rattle.server.proofs.LinkLaws.{does-silent}
 use Rattle.server.proofs.DoesLaws.{link-taken, does-refused}
 use Rattle.server.specs.State.{serverOf}
@@ -13,14 +14,14 @@ told c =
     let a = c .before .before .before .before .before .before .args in
     link-taken (serverOf (a .s) (a .slots .now) (a .memory .now)) (a .k) (a .time) (c .before .before .link-code .result) (c .before .before .link-code .ensures (a .memory .now)) (c .enum-told .given .1)
 
-slot-at-requires : tie.Need-slot-at-requires
-slot-at-requires c κs = (search needs, told (c .before .before))
+alignment-at-requires : tie.Need-alignment-at-requires
+alignment-at-requires c κs = (search needs, told (c .before))
 
 up-requires : tie.Need-up-requires
-up-requires c κs = (search needs, told (c .before .before .before))
+up-requires c κs = (c .before .before .before .before .before .before .before .before .before .before .pre .0, (c .before .before .before .before .before .before .before .before .before .before .pre .1, told (c .before .before .before .before)))
 
 taken-requires : tie.Need-taken-requires
-taken-requires c κs = (c .before .before .before .before .before .before .before .before .before .before .before .before .before .before .before .pre .0, (c .before .before .before .before .before .up .kept .0 ∙ c .before .before .before .before .before .before .before .before .before .before .before .before .before .before .before .pre .1, told (c .before .before .before .before .before .before .before .before .before)))
+taken-requires c κs = (c .before .before .before .before .before .before .up .kept .0 ∙ c .before .before .before .before .before .before .before .before .before .before .before .before .before .before .before .before .before .pre .0, (c .before .before .before .before .before .before .up .kept .1 .0 ∙ c .before .before .before .before .before .before .before .before .before .before .before .before .before .before .before .before .before .pre .1, told (c .before .before .before .before .before .before .before .before .before .before .before)))
 
 returns : tie.Need-returns
 unfolding codeOf
@@ -33,8 +34,10 @@ unfolding codeOf
 returns-2 c =
     let a = c .before .before .before .before .before .before .before .before .before .before .before .before .before .before .before .before .before .before .before .before .args in
     let o = c .before .before .before .before .before .before .before .before .before .before .before .before .before .before .before .before .link-code in
-    let x = c .before .before .before .before .before .before .before .before .before .before .before .slot-at in
-    does-silent (linkUp (a .k) (a .time)) (a .s) (a .slots .now) (c .before .before .before .before .taken .last .1 .0) (a .k) (a .time) (x .result) (c .before .before .before .before .before .before .before .before .before .before .up .result) (a .memory .now) (c .before .before .before .before .before .before .before .before .before .before .up .last .0) (c .before .before .before .before .taken .last .1 .1 .0) (o .result) (c .before .before .before .before .before .silent .result) (c .before .before .before .before .taken .result) (told (c .before .before .before .before .before .before .before .before .before .before .before .before .before .before)) refl refl refl refl (o .ensures (a .memory .now)) (c .before .before .before .before .before .before .before .before .before .before .before .before .before .before .enum-told .given .1) (x .ensures) (c .before .before .before .before .before .before .before .before .before .before .up .ensures) (c .before .before .before .before .before .silent .ensures) (c .before .before .before .before .taken .ensures)
+    let u = c .before .before .before .before .before .before .before .before .before .up in
+    let d = c .before .before .taken in
+    let from = c .before .before .before .before .before .before .before .before .before .before .before .before .alignment-at in
+    does-silent (linkUp (a .k) (a .time)) (a .s) (a .slots .now) (u .last .0) (a .k) (a .time) (a .memory .now) (u .last .1 .0) (d .last .1 .1 .0) (o .result) (from .result) (d .result) (told (c .before .before .before .before .before .before .before .before .before .before .before .before .before .before)) refl refl refl refl (o .ensures (a .memory .now)) (c .before .before .before .before .before .before .before .before .before .before .before .before .before .before .enum-told .given .1) (from .ensures) (u .ensures .1) (u .ensures .0) (d .ensures .0) (d .ensures .1)
 
 pub link-up-spec : {M : Type 1} → statement M
 link-up-spec =
@@ -44,9 +47,8 @@ link-up-spec =
     (λ c. search needs)
     (λ c κs. search needs)
     (λ c. search needs)
-    slot-at-requires
+    alignment-at-requires
     up-requires
-    (λ c κs. search needs)
     taken-requires
     (λ c. search needs)
     returns

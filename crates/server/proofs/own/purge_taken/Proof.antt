@@ -9,9 +9,11 @@ use Rattle.server.proofs.own.purge_taken.Tie as tie
 
 returns : tie.Need-returns
 returns c = λ e g.
-    let a = c .before .before .before .before .before .before .before .before .before .before .before .args in
-    swept-after (λ live. purgeRows live e) (a .memory .now) (c .before .before .before .before .before .before .purge-entry .last .0) (c .before .before .sweep .last .0)
-    (isMarked (c .before .before .before .before .before .before .before .live-of .result)) (liveIn (slotsOf (a .slots .now) (a .memory .now))) (c .before .before .before .before .before .before .before .live-of .ensures (a .memory .now)) (c .before .before .before .before .before .before .purge-entry .ensures e g) (c .before .before .sweep .ensures)
+    let changed = c .before .before .before .before .before .before in
+    let live = changed .before .live-of in
+    let a = changed .before .before .before .before .before .args in
+    swept-after (λ live. purgeRows live e) (a .memory .now) (changed .purge-entry .last .0) (c .before .before .sweep .last .0)
+    (isMarked (live .result)) (liveIn (slotsOf (a .slots .now) (a .memory .now))) (live .ensures (a .memory .now)) (changed .purge-entry .ensures .0 e g) (c .before .before .sweep .ensures)
 
 pub purge-taken-spec : {M : Type 1} → statement M
 purge-taken-spec =

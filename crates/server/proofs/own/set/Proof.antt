@@ -1,49 +1,66 @@
-use mathlib.Core.Path.{refl, sym, _∙_}
+-- A key or a payload that is not good is refused. Else the name is made of key and ID, and `set_named` does the rest.
+-- Assumes nothing.
+use mathlib.Core.Path.{_≡_, refl, sym, ap, _∙_}
+use mathlib.Core.Bool.{true}
+use native.Mathlib.Omega.{arith}
+use lib.ListN.{length}
 use borrow.Author.Tests.{not-true, not-false}
-use Rattle.rules.specs.Server.{holds}
-use Rattle.rules.specs.Refusals.{ownEntry}
+use Rattle.rules.specs.Refusals.{ownKeyGood, ownPayloadGood}
 use Rattle.rules.specs.Events.{codeOf}
 use Rattle.rules.specs.Events as events
-use Rattle.slots.specs.State.{settingsOf}
 use Rattle.slots.specs.declared.answers.Failure.the-variants.{Size}
 use Rattle.slots.specs.declared.answers.Outcome.the-variants.{Refused}
-use Rattle.memory.proofs.EntryLaws.{found-some}
+use Rattle.memory.specs.Memory.{entryNamed}
 use Rattle.server.specs.State.{serverOf}
 use Rattle.server.proofs.DoesLaws.{does-refused}
-use Rattle.server.proofs.OwnLaws.{key-room, row-room, set-key, set-payload, set-does}
+use Rattle.server.proofs.OwnLaws.{key-room, named-room, set-key, set-payload}
 use borrow.Author.Needs.{needs}
 use Rattle.server.proofs.own.set.Statement.{statement}
 use Rattle.server.proofs.own.set.Tie as tie
 
+-- behind the tests of key and payload
+good : (c : tie.Else1) → ownKeyGood (c .before .before .before .before .before .before .args .key .now) ≡ true
+good c = sym (c .before .key-good .ensures) ∙ not-false (c .before .key-good .result) (c .if1 .left)
+
+fits : (c : tie.Else2) → ownPayloadGood (c .before .before .before .before .before .before .before .before .args .payload .now) ≡ true
+fits c = sym (c .before .payload-good .ensures) ∙ not-false (c .before .payload-good .result) (c .if2 .left)
+
 returns : tie.Need-returns
 unfolding codeOf
-returns c = let a = c .before .before .before .before .before .before .before .args in
-    does-refused (events.set (a .key .now) (a .payload .now)) (a .s) (a .slots .now) (a .memory .now) (λ _. refl) (Refused Size) Size (c .refuse .result) (set-key (serverOf (a .s) (a .slots .now) (a .memory .now)) (a .key .now) (a .payload .now) (sym (c .before .before .key-good .ensures) ∙ not-true (c .before .before .key-good .result) (c .before .if1 .taken))) refl (c .refuse .ensures)
+returns c =
+    let test = c .before .before .key-good in
+    let a = c .before .before .before .before .before .before .before .args in
+    does-refused (events.set (a .key .now) (a .payload .now)) (a .s) (a .slots .now) (a .memory .now) (λ _. refl) (Refused Size) Size (c .refuse .result)
+    (set-key (serverOf (a .s) (a .slots .now) (a .memory .now)) (a .key .now) (a .payload .now) (sym (test .ensures) ∙ not-true (test .result) (c .before .if1 .taken))) refl (c .refuse .ensures)
 
 returns-2 : tie.Need-returns-2
 unfolding codeOf
-returns-2 c = let a = c .before .before .before .before .before .before .before .before .before .args in
-    does-refused (events.set (a .key .now) (a .payload .now)) (a .s) (a .slots .now) (a .memory .now) (λ _. refl) (Refused Size) Size (c .refuse2 .result) (set-payload (serverOf (a .s) (a .slots .now) (a .memory .now)) (a .key .now) (sym (c .before .before .before .before .key-good .ensures) ∙ not-false (c .before .before .before .before .key-good .result) (c .before .before .before .if1 .left)) (a .payload .now) (sym (c .before .before .payload-good .ensures) ∙ not-true (c .before .before .payload-good .result) (c .before .if2 .taken))) refl (c .refuse2 .ensures)
+returns-2 c =
+    let test = c .before .before .payload-good in
+    let else = c .before .before .before in
+    let a = else .before .before .before .before .before .before .args in
+    does-refused (events.set (a .key .now) (a .payload .now)) (a .s) (a .slots .now) (a .memory .now) (λ _. refl) (Refused Size) Size (c .refuse2 .result)
+    (set-payload (serverOf (a .s) (a .slots .now) (a .memory .now)) (a .key .now) (good else) (a .payload .now) (sym (test .ensures) ∙ not-true (test .result) (c .before .if2 .taken))) refl (c .refuse2 .ensures)
 
-row-of-requires : tie.Need-row-of-requires
-row-of-requires c κs = let a = c .before .before .before .before .before .before .before .before .before .args in (c .before .before .before .before .before .before .before .before .before .pre .1, key-room (a .key .now) (a .s .settings .id) (sym (c .before .before .before .before .key-good .ensures) ∙ not-false (c .before .before .before .before .key-good .result) (c .before .before .before .if1 .left)) (search needs))
+own-name-requires : tie.Need-own-name-requires
+own-name-requires c κs =
+    let a = c .before .before .before .before .before .before .before .before .args in
+    key-room (a .key .now) (a .s .settings .id) (good (c .before .before)) (search needs)
 
-set-code-requires : tie.Need-set-code-requires
-set-code-requires c κs = let a = c .before .before .before .before .before .before .before .before .before .before .before .args in (c .before .before .before .before .before .before .before .before .before .before .before .pre .1, found-some (holds (ownEntry (settingsOf (a .s .settings)) (a .key .now))) (a .memory .now) (c .before .row-of .result) (c .before .row-of .ensures))
-
-set-taken-requires : tie.Need-set-taken-requires
-set-taken-requires c κs = let a = c .before .before .before .before .before .before .before .before .before .before .before .before .before .before .before .args in ((c .before .before .before .before .before .before .before .before .before .before .before .before .before .before .before .pre, row-room (a .key .now) (a .s .settings .id) (a .payload .now) (sym (c .before .before .before .before .before .before .before .before .before .before .key-good .ensures) ∙ not-false (c .before .before .before .before .before .before .before .before .before .before .key-good .result) (c .before .before .before .before .before .before .before .before .before .if1 .left)) (sym (c .before .before .before .before .before .before .before .before .payload-good .ensures) ∙ not-false (c .before .before .before .before .before .before .before .before .payload-good .result) (c .before .before .before .before .before .before .before .if2 .left)) (search needs)), c .before .before .before .before .before .row-of .ensures)
+set-named-requires : tie.Need-set-named-requires
+set-named-requires c κs =
+    let first = c .before .first in
+    let named = c .before .before .before .before .before in
+    let at = named .before .before .before .before .before .before .before .before .before in
+    let size = ap length (first .ensures) in
+    (at .pre, named-room (first .result .now) (at .args .payload .now) (omega (arith, size, named .own-name .ensures .1), omega (arith, size, named .own-name .ensures .1)) (fits (named .before)))
 
 returns-3 : tie.Need-returns-3
-unfolding codeOf
-returns-3 c = let a = c .before .before .before .before .before .before .before .before .before .before .before .before .before .before .before .before .args in
-    let f = c .before .before .f .given in
-    does-refused (events.set (a .key .now) (a .payload .now)) (a .s) (a .slots .now) (a .memory .now) (λ _. refl) (c .before .before .before .before .set-code .result) (f .0 .0) (c .refuse3 .result) (c .before .before .before .before .set-code .ensures (a .s) (a .slots .now) (a .key .now) (a .payload .now) (sym (c .before .before .before .before .before .before .before .before .before .before .before .key-good .ensures) ∙ not-false (c .before .before .before .before .before .before .before .before .before .before .before .key-good .result) (c .before .before .before .before .before .before .before .before .before .before .if1 .left)) (sym (c .before .before .before .before .before .before .before .before .before .payload-good .ensures) ∙ not-false (c .before .before .before .before .before .before .before .before .before .payload-good .result) (c .before .before .before .before .before .before .before .before .if2 .left)) (c .before .before .before .before .before .before .row-of .ensures)) (f .1) (c .refuse3 .ensures)
-
-returns-4 : tie.Need-returns-4
-returns-4 c = let a = c .before .before .before .before .before .before .before .before .before .before .before .before .before .before .before .before .before .before .before .args in
-    set-does (a .s) (a .slots .now) (a .memory .now) (c .before .before .before .set-taken .last .1 .1 .0) (a .key .now) (c .before .before .before .before .before .before .before .set-code .result) (c .take .result) (c .before .before .before .before .before .enum-told .given .1) (c .take .ensures) (a .payload .now)
-    (c .before .before .before .before .before .before .before .set-code .ensures (a .s) (a .slots .now) (a .key .now) (a .payload .now) (sym (c .before .before .before .before .before .before .before .before .before .before .before .before .before .before .key-good .ensures) ∙ not-false (c .before .before .before .before .before .before .before .before .before .before .before .before .before .before .key-good .result) (c .before .before .before .before .before .before .before .before .before .before .before .before .before .if1 .left)) (sym (c .before .before .before .before .before .before .before .before .before .before .before .before .payload-good .ensures) ∙ not-false (c .before .before .before .before .before .before .before .before .before .before .before .before .payload-good .result) (c .before .before .before .before .before .before .before .before .before .before .before .if2 .left)) (c .before .before .before .before .before .before .before .before .before .row-of .ensures)) (c .before .before .before .set-taken .ensures)
+returns-3 c =
+    let first = c .before .before .before .before .first in
+    let named = c .before .before .before .before .before .before .before .before in
+    let a = named .before .before .before .before .before .before .before .before .before .args in
+    c .before .before .set-named .ensures (a .key .now) (good (named .before .before .before)) (fits (named .before)) (ap entryNamed (first .ensures) ∙ named .own-name .ensures .0)
 
 pub set-spec : {M : Type 1} → statement M
 set-spec =
@@ -55,14 +72,8 @@ set-spec =
     (λ c κs. search needs)
     (λ c κs. search needs)
     returns-2
-    row-of-requires
-    set-code-requires
-    (λ c. search needs)
+    own-name-requires
     (λ c κs. search needs)
+    set-named-requires
     (λ c. search needs)
-    set-taken-requires
-    (λ c κs. search needs)
-    (λ c. search needs)
-    returns-3
-    (λ c. search needs)
-    returns-4)
+    returns-3)

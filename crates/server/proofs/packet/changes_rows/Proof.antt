@@ -1,3 +1,4 @@
+-- Type by type.
 use mathlib.Core.Path.{sym, ap}
 use Rattle.rules.specs.Events.{bodyChanges}
 use Rattle.server.proofs.ReadLaws.{body-is}

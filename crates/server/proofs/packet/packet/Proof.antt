@@ -1,3 +1,4 @@
+-- Codes 1 to 4 first; then what is read of the packet.
 use Rattle.server.proofs.PacketLaws.{packet-refused, packet-read}
 use Rattle.server.proofs.DoesLaws.{poll-taken}
 use Rattle.server.specs.State.{serverOf}

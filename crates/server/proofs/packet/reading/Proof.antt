@@ -1,3 +1,4 @@
+-- Refused with 5 to 9, malformed, or a message: each is what the definition reads.
 use mathlib.Core.Bool.{Bool, _&&_}
 use native.Mathlib.Omega.{arith}
 use borrow.Author.Tests.{ne-eqb}

@@ -1,3 +1,5 @@
+-- The tests one behind the other, each with its code; the last tells either way.
+-- Assumes nothing.
 use Rattle.server.proofs.PeerLaws.{add-above, add-size, add-used, add-own, add-tried}
 use mathlib.Core.Bool.{true, false}
 use mathlib.Core.Path.{sym, _∙_}
@@ -22,18 +24,23 @@ returns-3 c = λ m.
 
 returns-4 : tie.Need-returns-4
 returns-4 c = λ m.
-    let a = c .before .before .before .before .before .before .before .before .before .before .before .args in
-    add-own (a .s) (a .slots .now) (a .k) (a .id .now) m (c .before .before .before .before .before .before .before .before .if1 .left) (c .before .before .before .before .before .before .before .if2 .left) (sym (c .before .before .before .before .before .before .used-at .ensures) ∙ c .before .before .before .before .before .if3 .left) (sym (c .before .same .ensures) ∙ c .if4 .taken)
+    let at = c .before .before .before .before .before in
+    let a = at .before .before .before .before .before .before .args in
+    add-own (a .s) (a .slots .now) (a .k) (a .id .now) m (at .before .before .before .if1 .left) (at .before .before .if2 .left) (sym (at .before .used-at .ensures) ∙ at .if3 .left) (sym (c .before .same .ensures) ∙ c .if4 .taken)
 
 returns-5 : tie.Need-returns-5
 returns-5 c = λ m.
-    let a = c .before .before .before .before .before .before .before .before .before .before .before .before .before .args in
-    add-tried (a .s) (a .slots .now) (a .k) (a .id .now) m (c .before .before .before .before .before .before .before .before .before .before .if1 .left) (c .before .before .before .before .before .before .before .before .before .if2 .left) (sym (c .before .before .before .before .before .before .before .before .used-at .ensures) ∙ c .before .before .before .before .before .before .before .if3 .left) true (sym (c .before .before .before .same .ensures) ∙ c .before .before .if4 .left) (sym (c .if5 .taken) ∙ c .before .has-peer .ensures m)
+    let at = c .before .before .before .before .before .before .before in
+    let a = at .before .before .before .before .before .before .args in
+    add-tried (a .s) (a .slots .now) (a .k) (a .id .now) m (at .before .before .before .if1 .left) (at .before .before .if2 .left) (sym (at .before .used-at .ensures) ∙ at .if3 .left) true
+    (sym (c .before .before .before .same .ensures) ∙ c .before .before .if4 .left) (sym (c .if5 .taken) ∙ c .before .has-peer .ensures m)
 
 returns-6 : tie.Need-returns-6
 returns-6 c = λ m.
-    let a = c .before .before .before .before .before .before .before .before .before .before .before .before .before .args in
-    add-tried (a .s) (a .slots .now) (a .k) (a .id .now) m (c .before .before .before .before .before .before .before .before .before .before .if1 .left) (c .before .before .before .before .before .before .before .before .before .if2 .left) (sym (c .before .before .before .before .before .before .before .before .used-at .ensures) ∙ c .before .before .before .before .before .before .before .if3 .left) false (sym (c .before .before .before .same .ensures) ∙ c .before .before .if4 .left) (sym (c .if5 .left) ∙ c .before .has-peer .ensures m)
+    let at = c .before .before .before .before .before .before .before in
+    let a = at .before .before .before .before .before .before .args in
+    add-tried (a .s) (a .slots .now) (a .k) (a .id .now) m (at .before .before .before .if1 .left) (at .before .before .if2 .left) (sym (at .before .used-at .ensures) ∙ at .if3 .left) false
+    (sym (c .before .before .before .same .ensures) ∙ c .before .before .if4 .left) (sym (c .if5 .left) ∙ c .before .has-peer .ensures m)
 
 pub add-code-spec : {M : Type 1} → statement M
 add-code-spec =

@@ -1,3 +1,5 @@
+-- The code refuses, or the slot gets its peer.
+-- Assumes nothing.
 use Rattle.server.proofs.DoesLaws.{add-taken, does-refused, does-taken}
 use Rattle.server.specs.State.{serverOf}
 use Rattle.server.specs.declared.answers.Answer.{Answer}
@@ -9,22 +11,28 @@ use Rattle.server.proofs.peers.add_peer.Tie as tie
 
 add-taken-requires : tie.Need-add-taken-requires
 add-taken-requires c κs =
-    let a = c .before .before .before .before .before .before .before .before .before .args in
-    (search needs, add-taken (serverOf (a .s) (a .slots .now) (a .memory .now)) (a .k) (a .id .now) (c .before .before .before .before .add-code .result) (c .before .before .before .before .add-code .ensures (a .memory .now)) (c .before .before .enum-told .given .1))
+    let code = c .before .before .before .before in
+    let a = code .before .before .before .before .before .args in
+    (search needs, add-taken (serverOf (a .s) (a .slots .now) (a .memory .now)) (a .k) (a .id .now) (code .add-code .result) (code .add-code .ensures (a .memory .now)) (c .before .before .enum-told .given .1))
 
 returns : tie.Need-returns
 unfolding codeOf
 returns c =
-    let a = c .before .before .before .before .before .before .before .before .before .args in
-    does-refused (addPeer (a .k) (a .id .now)) (a .s) (a .slots .now) (a .memory .now) (λ _. refl) (c .before .before .before .before .add-code .result) (c .before .before .f .given .0 .0) (c .refuse .result) (c .before .before .before .before .add-code .ensures (a .memory .now)) (c .before .before .f .given .1) (c .refuse .ensures)
+    let f = c .before .before .f .given in
+    let code = c .before .before .before .before in
+    let a = code .before .before .before .before .before .args in
+    does-refused (addPeer (a .k) (a .id .now)) (a .s) (a .slots .now) (a .memory .now) (λ _. refl) (code .add-code .result) (f .0 .0) (c .refuse .result) (code .add-code .ensures (a .memory .now)) (f .1) (c .refuse .ensures)
 
 returns-2 : tie.Need-returns-2
 unfolding codeOf
 returns-2 c =
-    let a = c .before .before .before .before .before .before .before .before .before .before .before .before .before .before .before .args in
-    let o = c .before .before .before .before .before .before .before .before .before .before .add-code in
     let v = c .before .before .before .before .before .add-taken in
-    does-taken (addPeer (a .k) (a .id .now)) (a .s) (a .slots .now) (a .memory .now) (o .result) (v .last .1 .0) (v .last .1 .1 .0) (c .take .result) (o .ensures (a .memory .now)) (c .before .before .before .before .before .before .before .before .enum-told .given .1) (ap (λ (r : Answer). r .outcome) (c .take .ensures)) (ap (λ (r : Answer). serverOf (r .server) (v .last .1 .0) (v .last .1 .1 .0)) (c .take .ensures) ∙ v .ensures) (ap (λ (r : Answer). r .written) (c .take .ensures))
+    let told = c .before .before .before .before .before .before .before .before in
+    let code = told .before .before in
+    let o = code .add-code in
+    let a = code .before .before .before .before .before .args in
+    does-taken (addPeer (a .k) (a .id .now)) (a .s) (a .slots .now) (a .memory .now) (o .result) (v .last .1 .0) (v .last .1 .1 .0) (c .take .result) (o .ensures (a .memory .now)) (told .enum-told .given .1)
+    (ap (λ (r : Answer). r .outcome) (c .take .ensures)) (ap (λ (r : Answer). serverOf (r .server) (v .last .1 .0) (v .last .1 .1 .0)) (c .take .ensures) ∙ v .ensures) (ap (λ (r : Answer). r .written) (c .take .ensures))
 
 pub add-peer-spec : {M : Type 1} → statement M
 add-peer-spec =

@@ -1,3 +1,5 @@
+-- The slots from k on tell what all tell, so the first that has the peer answers, and past the last none has it.
+-- Assumes nothing.
 use Rattle.server.proofs.PeerLaws.{RestTells, peer-here, peer-later, peer-nowhere}
 use mathlib.Core.Path.{refl, sym, _∙_}
 use Prim.Native.Nat.{_≤_, _-_}

@@ -1,3 +1,4 @@
+-- Codes 1 to 4 first; then the slot's poll.
 use lib.ListN.{length}
 use Rattle.server.specs.State.{serverOf}
 use Rattle.server.proofs.DoesLaws.{poll-taken}

@@ -7,13 +7,22 @@ use Rattle.server.proofs.queries.originator_of.Statement.{statement}
 use Rattle.server.proofs.queries.originator_of.Tie as tie
 
 originator-of-requires : tie.Need-originator-of-requires
-originator-of-requires c κs = let a = c .before .before .before .args in (search needs, is-below (a .memory .now) (a .row) (c .before .before .is-used .result) (c .before .before .is-used .ensures) (c .before .if1 .taken))
+originator-of-requires c κs =
+    let at = c .before .before in
+    let a = at .before .args in
+    (search needs, is-below (a .memory .now) (a .row) (at .is-used .result) (at .is-used .ensures) (c .before .if1 .taken))
 
 returns : tie.Need-returns
-returns c = let a = c .before .before .before .before .args in c .originator-of .ensures ∙ ap (λ (r : Row). entryShown r .originator) (row-used (a .memory .now) (a .row) (c .before .before .before .is-used .result) (c .before .before .before .is-used .ensures) (c .before .before .if1 .taken))
+returns c =
+    let at = c .before .before .before in
+    let a = at .before .args in
+    c .originator-of .ensures ∙ ap (λ (r : Row). entryShown r .originator) (row-used (a .memory .now) (a .row) (at .is-used .result) (at .is-used .ensures) (c .before .before .if1 .taken))
 
 returns-2 : tie.Need-returns-2
-returns-2 c = let a = c .before .before .before .before .args in c .first .ensures ∙ ap (λ (r : Row). entryShown r .originator) (row-free (a .memory .now) (a .row) (c .before .before .before .is-used .result) (c .before .before .before .is-used .ensures) (c .before .before .if1 .left))
+returns-2 c =
+    let at = c .before .before .before in
+    let a = at .before .args in
+    c .first .ensures ∙ ap (λ (r : Row). entryShown r .originator) (row-free (a .memory .now) (a .row) (at .is-used .result) (at .is-used .ensures) (c .before .before .if1 .left))
 
 pub originator-of-spec : {M : Type 1} → statement M
 originator-of-spec =

@@ -7,13 +7,22 @@ use Rattle.server.proofs.queries.remaining_of.Statement.{statement}
 use Rattle.server.proofs.queries.remaining_of.Tie as tie
 
 remaining-of-requires : tie.Need-remaining-of-requires
-remaining-of-requires c κs = let a = c .before .before .before .args in (search needs, is-below (a .memory .now) (a .row) (c .before .before .is-used .result) (c .before .before .is-used .ensures) (c .before .if1 .taken))
+remaining-of-requires c κs =
+    let at = c .before .before in
+    let a = at .before .args in
+    (search needs, is-below (a .memory .now) (a .row) (at .is-used .result) (at .is-used .ensures) (c .before .if1 .taken))
 
 returns : tie.Need-returns
-returns c = let a = c .before .before .before .before .args in c .remaining-of .ensures ∙ ap (λ (r : Row). valueShown r .remaining) (row-used (a .memory .now) (a .row) (c .before .before .before .is-used .result) (c .before .before .before .is-used .ensures) (c .before .before .if1 .taken))
+returns c =
+    let at = c .before .before .before in
+    let a = at .before .args in
+    c .remaining-of .ensures ∙ ap (λ (r : Row). valueShown r .remaining) (row-used (a .memory .now) (a .row) (at .is-used .result) (at .is-used .ensures) (c .before .before .if1 .taken))
 
 returns-2 : tie.Need-returns-2
-returns-2 c = let a = c .before .before .args in ap (λ (r : Row). valueShown r .remaining) (row-free (a .memory .now) (a .row) (c .before .is-used .result) (c .before .is-used .ensures) (c .if1 .left))
+returns-2 c =
+    let at = c .before in
+    let a = at .before .args in
+    ap (λ (r : Row). valueShown r .remaining) (row-free (a .memory .now) (a .row) (at .is-used .result) (at .is-used .ensures) (c .if1 .left))
 
 pub remaining-of-spec : {M : Type 1} → statement M
 remaining-of-spec = tie.close (tie.spec (λ c κs. search needs) remaining-of-requires returns returns-2)

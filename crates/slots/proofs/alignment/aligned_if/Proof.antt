@@ -1,3 +1,4 @@
+-- State by state: only Update with no requests moves.
 use Rattle.slots.proofs.Laws.{realigned, still-aligned}
 use mathlib.Core.Path.{refl, _∙_}
 use borrow.Author.Needs.{needs}

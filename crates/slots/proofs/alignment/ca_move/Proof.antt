@@ -1,3 +1,4 @@
+-- Rule by rule.
 use borrow.Author.Needs.{needs}
 use Rattle.slots.proofs.alignment.ca_move.Statement.{statement}
 use Rattle.slots.proofs.alignment.ca_move.Tie as tie

@@ -1,3 +1,4 @@
+-- Failure by failure.
 use borrow.Author.Needs.{needs}
 use Rattle.slots.proofs.answers.number_of.Statement.{statement}
 use Rattle.slots.proofs.answers.number_of.Tie as tie

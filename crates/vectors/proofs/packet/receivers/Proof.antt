@@ -3,10 +3,10 @@ use Rattle.vectors.proofs.packet.receivers.Statement.{statement}
 use Rattle.vectors.proofs.packet.receivers.Tie as tie
 
 abbrev Inv-loop : tie.InvT-loop
-Inv-loop p c₀ left₀ c left = Unit {0}
+Inv-loop p at₀ left₀ at left = Unit {0}
 
 abbrev μ-loop : tie.MeasureT-loop
-μ-loop p c₀ left₀ c left = left
+μ-loop p at₀ left₀ at left = left
 
 pub receivers-spec : {M : Type 1} → statement M
 receivers-spec =
@@ -18,9 +18,6 @@ receivers-spec =
     (λ c. search needs)
     (λ c. search needs)
     (λ c κs. search needs)
-    (λ c. search needs)
-    (λ c κs. search needs)
-    (λ c. search needs)
     (λ c. search needs)
     (λ c. search needs)
     (λ c. search needs)

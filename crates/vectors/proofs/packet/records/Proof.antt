@@ -3,10 +3,10 @@ use Rattle.vectors.proofs.packet.records.Statement.{statement}
 use Rattle.vectors.proofs.packet.records.Tie as tie
 
 abbrev Inv-loop : tie.InvT-loop
-Inv-loop p c₀ left₀ c left = Unit {0}
+Inv-loop p at₀ left₀ at left = Unit {0}
 
 abbrev μ-loop : tie.MeasureT-loop
-μ-loop p c₀ left₀ c left = left
+μ-loop p at₀ left₀ at left = left
 
 pub records-spec : {M : Type 1} → statement M
 records-spec =
@@ -18,9 +18,7 @@ records-spec =
     (λ c. search needs)
     (λ c. search needs)
     (λ c κs. search needs)
-    (λ c. search needs)
     (λ c κs. search needs)
-    (λ c. search needs)
     (λ c. search needs)
     (λ c. search needs)
     (λ c. search needs)

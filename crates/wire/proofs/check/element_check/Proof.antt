@@ -1,3 +1,4 @@
+-- A receiver of a Hello, or a record of any other type.
 use mathlib.Core.Path.{sym, ap, _∙_}
 use Rattle.protocol.specs.declared.Kind.{Kind}
 use Rattle.protocol.specs.Sizes.{idLength}

@@ -1,3 +1,4 @@
+-- The size of a receiver, or what the record says.
 use mathlib.Core.Path.{sym, ap, _∙_}
 use native.Mathlib.Omega.{arith}
 use Rattle.protocol.specs.declared.Kind.{Kind}

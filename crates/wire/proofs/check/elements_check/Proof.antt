@@ -1,3 +1,4 @@
+-- The loop keeps: the first break from here on is that of the whole.
 use mathlib.Core.Path.{_≡_, refl}
 use Prim.Native.Nat.{_+_, _*_, _≤_}
 use native.Mathlib.Omega.{arith}

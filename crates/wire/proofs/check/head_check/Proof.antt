@@ -1,3 +1,4 @@
+-- The fields of the head in order, up to the first that breaks a rule.
 use Rattle.wire.proofs.Checking.{head, head-before}
 use borrow.Author.Needs.{needs}
 use Rattle.wire.proofs.check.head_check.Statement.{statement}

@@ -1,3 +1,4 @@
+-- Too short for its field, or no more and no less than its elements.
 use mathlib.Core.Path.{ap, _∙_}
 use Prim.Native.Nat.{ℕ, _+_}
 use lib.Dec.{eqb, leb}

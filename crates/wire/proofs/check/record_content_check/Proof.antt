@@ -1,3 +1,4 @@
+-- The fields of a record in order, up to the first that breaks a rule.
 use mathlib.Core.Path.{ap, _∙_}
 use mathlib.Core.Bool.{Bool, true, not, _||_}
 use Prim.Native.Nat.{ℕ, _+_}

@@ -1,3 +1,4 @@
+-- Key length, then record length, each by its own rule.
 use mathlib.Core.Path.{_∙_}
 use Prim.Native.Nat.{ℕ, _+_}
 use lib.ListN.{length}

@@ -1,3 +1,4 @@
+-- Each field that was tested is one that does not break.
 use mathlib.Core.Path.{sym, ap, _∙_}
 use native.Mathlib.Omega.{arith}
 use lib.Dec.{leb}

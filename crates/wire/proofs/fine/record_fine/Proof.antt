@@ -1,3 +1,4 @@
+-- The room once, then each field where it lies: none breaks.
 use Prim.Native.Nat.{_+_, _-_, _≤_, _<_}
 use mathlib.Core.Path.{sym, _∙_}
 use native.Mathlib.Omega.{arith}

@@ -1,3 +1,4 @@
+-- Codes 5 to 9 in order: each test that failed before is a fact for the next.
 use mathlib.Core.Path.{_≡_, sym, _∙_}
 use mathlib.Core.Bool.{true}
 use borrow.Author.Tests.{not-true, not-false}

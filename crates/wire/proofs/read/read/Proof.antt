@@ -1,3 +1,4 @@
+-- A code of the fixed part, a field that breaks a rule, or a message.
 use Rattle.wire.proofs.Readings.{refused, malformed, packet}
 use borrow.Author.Needs.{needs}
 use Rattle.wire.proofs.read.read.Statement.{statement}

@@ -1,3 +1,4 @@
+-- A Hello may name nobody.
 use borrow.Author.Tests.{eq-eqb, ne-eqb}
 use borrow.Author.Needs.{needs}
 use Rattle.wire.proofs.values.receiver_length_good.Statement.{statement}

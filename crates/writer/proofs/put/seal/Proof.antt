@@ -1,9 +1,11 @@
+-- The two octets stored are the checksum in its place among the first n octets; those behind them stay.
+-- Assumes nothing.
 use mathlib.Core.Path.{sym, ap, _∙_}
 use Prim.Native.Nat.{ℕ, _/_, _%_}
 use native.Mathlib.Omega.{arith}
 use lib.Seq.{length-take-le}
 use lib.ListN.{set, length-set}
-use Rattle.writer.proofs.Packets.{seal-part}
+use Rattle.writer.proofs.Heads.{seal-part}
 use borrow.Author.Needs.{needs}
 use Rattle.writer.proofs.put.seal.Statement.{statement}
 use Rattle.writer.proofs.put.seal.Tie as tie

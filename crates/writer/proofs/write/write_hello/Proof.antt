@@ -1,10 +1,11 @@
-use mathlib.Core.Path.{_≡_, ap}
+-- The start and the common part, up to the receiver or with it, are the whole packet: the head is put before nothing.
+-- Assumes nothing.
+use Rattle.writer.proofs.Heads.{common-part, hello-wrote}
 use native.Mathlib.Omega.{arith}
-use lib.ListN.{length}
-use Rattle.protocol.specs.declared.Kind.the-variants.{Hello}
-use Rattle.writer.specs.Write.{openingOf}
-use Rattle.writer.specs.declared.put.Lead.{Lead}
-use Rattle.writer.proofs.Packets.{too-short, packet-wrote, writes-as, hello-packet}
+use lib.Seq.{length-take-le}
+use lib.ListN.{length, take}
+use Prim.Native.Nat.{ℕ, _+_, _-_}
+use mathlib.Core.Path.{_≡_, refl, ap, _∙_}
 use borrow.Author.Needs.{needs}
 use Rattle.writer.proofs.write.write_hello.Statement.{statement}
 use Rattle.writer.proofs.write.write_hello.Tie as tie
@@ -12,32 +13,44 @@ use Rattle.writer.proofs.write.write_hello.Tie as tie
 widths : (c : tie.Start) → (length (c .args .c .sender) ≡ 4) × (length (c .args .c .receiver) ≡ 4)
 widths c = search needs
 
+start : (c : tie.After-hello-start) → length (c .hello-start .result) ≡ 16
+start c = ap length (c .hello-start .ensures)
+
+common : (c : tie.After-common-part) → length (c .common-part .result) ≡ 20
+common c = search needs
+
+taken : (c : tie.After-first) → length (c .first .result .now) ≡ 16 + c .before .before .before .before .before .before .receiver-len .result
+taken c =
+    let l = c .before .before .before .before .before .before .receiver-len in
+    let m = c .before .before .before .before .common-part .result in
+    ap length (c .first .ensures) ∙ length-take-le (32 + l .result - 16) m (omega (arith, l .ensures .1, common (c .before .before .before .before))) ∙ omega arith
+
+put-head-requires : tie.Need-put-head-requires
+put-head-requires c κs = let t = taken c in omega (arith, start (c .before .before .before .before .before), t, c .before .before .before .before .before .before .receiver-len .ensures .1, c .before .before .before .before .before .before .before .before .pre)
+
 returns : tie.Need-returns
-returns c = too-short (c .before .before .args .out .now) (c .if1 .taken)
-
-finish-requires : tie.Need-finish-requires
-finish-requires c κs =
-    let n = c .before .before .before .begin in
-    let e = ap (λ (x : Lead). x .len) (c .before .before .before .before .before .hello-lead .ensures) in
-    (omega (arith, n .ensures .0 .next), (omega (arith, n .ensures .1, e), omega (arith, n .ensures .1, e, n .kept .0, c .before .before .before .before .before .before .before .if1 .left)))
-
-returns-2 : tie.Need-returns-2
-returns-2 c =
-    let a = c .before .before .before .before .before .before .before .before .before .before .before .before .args in
-    let n = c .before .before .before .before .before .before .begin in
-    let lead = c .before .before .before .before .before .before .before .before .hello-lead in
-    let len = c .before .before .before .before .before .before .before .receiver-len in
-    writes-as (hello-packet (a .c) (lead .result) (widths (c .before .before .before .before .before .before .before .before .before .before .before .before)) (a .interval) (a .factor) (a .named) (len .result) (len .ensures) (lead .ensures))
-    (packet-wrote Hello (openingOf (lead .result) (a .c) 0 (len .result) 0) (a .out .now) (c .before .before .before .before .before .before .before .before .before .before .if1 .left) (omega (arith, n .ensures .1, ap (λ (x : Lead). x .len) (lead .ensures), c .before .before .before .before .before .before .before .before .before .before .if1 .left)) (n .ensures .0) (c .before .before .finish .ensures))
+returns c =
+    let a = c .before .before .before .before .before .before .before .before .before .before .before .args in
+    let l = c .before .before .before .before .before .before .before .before .before .receiver-len in
+    let f = c .before .before .before .before .before .before .before .before .hello-start in
+    let m = c .before .before .before .before .before .before .before .common-part in
+    let size : 32 + l .result - 16 ≡ 16 + l .result = omega arith in
+    hello-wrote (a .c) (widths (c .before .before .before .before .before .before .before .before .before .before .before)) (a .interval) (a .factor) (a .named) (c .before .before .before .before .before .before .before .before .before .before .before .pre) (l .ensures .0) (l .ensures .1) refl (f .ensures) (c .before .before .before .first .ensures ∙ ap (λ (x : ℕ). take x (m .result)) size ∙ common-part (a .c) (widths (c .before .before .before .before .before .before .before .before .before .before .before)) (a .named) (l .ensures .0) (m .ensures)) (taken (c .before .before .before)) (c .before .before .put-head .ensures)
 
 pub write-hello-spec : {M : Type 1} → statement M
 write-hello-spec =
     tie.close
     (tie.spec
-    returns
     (λ c κs. search needs)
-    (λ c κs. search needs)
-    (λ c κs. search needs)
-    finish-requires
     (λ c. search needs)
-    returns-2)
+    (λ c. search needs)
+    (λ c. search needs)
+    (λ c κs. search needs)
+    (λ c κs. search needs)
+    (λ c. search needs)
+    (λ c. search needs)
+    (λ c. search needs)
+    (λ c κs. search needs)
+    put-head-requires
+    (λ c. search needs)
+    returns)

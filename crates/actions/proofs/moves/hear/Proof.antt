@@ -1,0 +1,39 @@
+-- In Bidirectional, named, three words are the whole move; else the slot is read, moved and put.
+use Rattle.actions.proofs.MoveLaws.{to-link, heard-put}
+use Rattle.protocol.specs.declared.HelloState.{HelloState}
+use Rattle.rules.specs.Links.{isBidirectional, helloMove}
+use Rattle.table.specs.Words.{slotIn}
+use mathlib.Core.Bool.{_&&_}
+use mathlib.Core.Path.{sym, ap, _∙_}
+use borrow.Author.Needs.{needs}
+use Rattle.actions.proofs.moves.hear.Statement.{statement}
+use Rattle.actions.proofs.moves.hear.Tie as tie
+
+returns : tie.Need-returns
+returns c =
+    let a = c .before .before .before .before .before .before .before .before .before .before .args in
+    let stays = ap (λ (z : HelloState). isBidirectional z && a .named) (sym (c .before .before .before .before .before .before .hello-at .ensures)) ∙ sym (c .before .before .before .before .before .stays .ensures) ∙ c .before .before .before .before .if1 .taken in
+    heard-put (a .k) (a .slots .now) (c .before .before .put-heard .last .0) (a .memory .now) (a .time) (a .interval) (a .factor) (a .named) stays (c .before .before .put-heard .ensures)
+
+returns-2 : tie.Need-returns-2
+returns-2 c =
+    let a = c .before .before .before .before .before .before .before .before .before .before .before .before .before .before .before .before .args in
+    let t = c .before .before .before .before .move-slot in
+    let l = c .before .before .before .before .before .before .before .hello-move in
+    to-link (a .k) (a .slots .now) (t .last .0) (a .memory .now) (t .last .1 .0) (l .result) (helloMove (a .time) (a .interval) (a .factor) (a .named) (slotIn (a .slots .now) (a .k) .link)) (l .ensures ∙ ap (helloMove (a .time) (a .interval) (a .factor) (a .named)) (c .before .before .before .before .before .before .before .before .link-at .ensures)) (t .ensures)
+
+pub hear-spec : {M : Type 1} → statement M
+hear-spec =
+    tie.close
+    (tie.spec
+    (λ c κs. search needs)
+    (λ c κs. search needs)
+    (λ c κs. search needs)
+    (λ c. search needs)
+    returns
+    (λ c κs. search needs)
+    (λ c κs. search needs)
+    (λ c κs. search needs)
+    (λ c. search needs)
+    (λ c. search needs)
+    returns-2)

@@ -1,0 +1,15 @@
+use Rattle.actions.proofs.FinishLaws.{none-written, some-written}
+use Rattle.protocol.specs.Messages.{csuRequest}
+use borrow.Author.Needs.{needs}
+use Rattle.actions.proofs.packets.write_request.Statement.{statement}
+use Rattle.actions.proofs.packets.write_request.Tie as tie
+
+returns : tie.Need-returns
+returns c = let a = c .before .before .args in none-written csuRequest (a .c) (a .count) (a .n) (a .out .now) (c .if1 .taken)
+
+returns-2 : tie.Need-returns-2
+returns-2 c = let a = c .before .before .before .before .before .before .args in let f = c .before .before .finish-request in some-written csuRequest (a .c) (a .count) (a .n) (a .out .now) (f .last .0) (c .before .before .before .before .if1 .left) (f .ensures)
+
+pub write-request-spec : {M : Type 1} → statement M
+write-request-spec =
+    tie.close (tie.spec returns (λ c. search needs) (λ c κs. search needs) (λ c. search needs) returns-2)

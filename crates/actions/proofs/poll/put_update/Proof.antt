@@ -1,0 +1,16 @@
+use Prim.Native.Nat.{_%_}
+use Rattle.rules.specs.Slots.{withCursor, updateSent}
+use Rattle.table.proofs.TableLaws.{changes-then}
+use borrow.Author.Needs.{needs}
+use Rattle.actions.proofs.poll.put_update.Statement.{statement}
+use Rattle.actions.proofs.poll.put_update.Tie as tie
+
+returns : tie.Need-returns
+returns c =
+    let a = c .before .before .before .before .before .before .before .before .before .before .args in
+    changes-then (a .k) (withCursor (a .picks .next % 64)) (updateSent (a .time)) (a .slots .now) (c .before .before .before .before .before .before .put-cursor .last .0) (c .before .before .put-update-sent .last .0) (c .before .before .before .before .before .before .put-cursor .ensures) (c .before .before .put-update-sent .ensures)
+
+pub put-update-spec : {M : Type 1} → statement M
+put-update-spec =
+    tie.close
+    (tie.spec (λ c. search needs) (λ c κs. search needs) (λ c κs. search needs) (λ c. search needs) returns)

@@ -1,0 +1,17 @@
+use Rattle.records.proofs.PutLaws.{puts-one}
+use Rattle.records.specs.Places.{entryRecord}
+use Rattle.memory.specs.Memory.{entryNamed}
+use lib.ListN.{length}
+use native.Mathlib.Omega.{arith}
+use mathlib.Core.List.{[]}
+use mathlib.Core.Bool.{false}
+use borrow.Author.Needs.{needs}
+use Rattle.records.proofs.put.put_summary.Statement.{statement}
+use Rattle.records.proofs.put.put_summary.Tie as tie
+
+returns : tie.Need-returns
+returns c = let a = c .before .before .before .before .before .before .before .args in let q = c .before .before .put-record in puts-one 32 (entryRecord 1 false (a .number) (entryNamed (a .name .now)) []) (a .at) (length (a .name .now)) 0 (a .out .now) (q .last .0) (q .result) (q .ensures) (omega (arith, c .before .before .before .before .before .before .before .pre))
+
+pub put-summary-spec : {M : Type 1} → statement M
+put-summary-spec =
+    tie.close (tie.spec (λ c. search needs) (λ c κs. search needs) (λ c. search needs) returns)

@@ -1,0 +1,12 @@
+use Rattle.table.proofs.TableLaws.{csus-put}
+use borrow.Author.Needs.{needs}
+use Rattle.table.proofs.fields.put_csus_sent.Statement.{statement}
+use Rattle.table.proofs.fields.put_csus_sent.Tie as tie
+
+returns : tie.Need-returns
+returns c =
+    let a = c .before .before .before .before .before .before .args in
+    csus-put (a .k) (c .before .before .before .of-last .result) (a .t .now) _ (a .time) (c .before .before .put-word .ensures) (c .before .before .before .of-last .ensures)
+
+pub put-csus-sent-spec : {M : Type 1} → statement M
+put-csus-sent-spec = tie.close (tie.spec (λ c κs. search needs) (λ c κs. search needs) (λ c. search needs) returns)

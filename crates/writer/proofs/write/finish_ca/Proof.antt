@@ -1,0 +1,45 @@
+-- The start and the common part are a head of 32 octets, so what stands behind it is a packet; it is the message's.
+-- Assumes nothing.
+use Rattle.writer.proofs.Heads.{behind, common-whole, finishes-ca}
+use Rattle.writer.specs.Write.{commonOf}
+use Rattle.protocol.specs.Fields.{put4}
+use Rattle.protocol.specs.declared.Kind.the-variants.{Ca}
+use native.Mathlib.Omega.{arith}
+use mathlib.Core.List.{[], _++_}
+use lib.ListN.{length}
+use mathlib.Core.Path.{_≡_, ap}
+use borrow.Author.Needs.{needs}
+use Rattle.writer.proofs.write.finish_ca.Statement.{statement}
+use Rattle.writer.proofs.write.finish_ca.Tie as tie
+
+widths : (c : tie.Start) → (length (c .args .c .sender) ≡ 4) × (length (c .args .c .receiver) ≡ 4)
+widths c = search needs
+
+start : (c : tie.After-ca-start) → length (c .ca-start .result) ≡ 12
+start c = ap length (c .ca-start .ensures)
+
+common : (c : tie.After-common-part) → length (c .common-part .result) ≡ 20
+common c = search needs
+
+returns : tie.Need-returns
+returns c =
+    let a = c .before .before .before .before .before .before .before .before .before .before .args in
+    let f = c .before .before .before .before .before .before .before .before .ca-start in
+    let x = c .before .before .before .before .before .before .before .flags-of in
+    let m = c .before .before .before .before .before .before .common-part in
+    finishes-ca (a .c) (widths (c .before .before .before .before .before .before .before .before .before .before)) (a .number) (a .flags) (x .ensures)
+    (behind Ca (put4 (a .number .0) [] ++ commonOf (a .c) (x .result) 4 (a .count)) (f .result) (m .result) 32 (a .n) (λ i. f .ensures i ++ common-whole (a .c) (widths (c .before .before .before .before .before .before .before .before .before .before)) (x .result) (a .count) (m .ensures) i) (omega (arith, start (c .before .before .before .before .before .before .before .before), common (c .before .before .before .before .before .before))) (c .before .before .put-head .ensures))
+
+pub finish-ca-spec : {M : Type 1} → statement M
+finish-ca-spec =
+    tie.close
+    (tie.spec
+    (λ c. search needs)
+    (λ c κs. search needs)
+    (λ c κs. search needs)
+    (λ c κs. search needs)
+    (λ c. search needs)
+    (λ c. search needs)
+    (λ c κs. search needs)
+    (λ c. search needs)
+    returns)

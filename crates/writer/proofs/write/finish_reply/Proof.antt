@@ -1,0 +1,15 @@
+use Rattle.writer.proofs.Heads.{finishes-reply}
+use lib.ListN.{length}
+use mathlib.Core.Path.{_≡_}
+use borrow.Author.Needs.{needs}
+use Rattle.writer.proofs.write.finish_reply.Statement.{statement}
+use Rattle.writer.proofs.write.finish_reply.Tie as tie
+
+widths : (c : tie.Start) → (length (c .args .c .sender) ≡ 4) × (length (c .args .c .receiver) ≡ 4)
+widths c = search needs
+
+returns : tie.Need-returns
+returns c = finishes-reply (c .before .before .before .before .before .args .c) (widths (c .before .before .before .before .before)) (c .before .before .finish-csu .ensures)
+
+pub finish-reply-spec : {M : Type 1} → statement M
+finish-reply-spec = tie.close (tie.spec (λ c κs. search needs) (λ c. search needs) returns)
