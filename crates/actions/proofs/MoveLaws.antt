@@ -70,10 +70,6 @@ module _ (k : ℕ) (l : Link) (x : Slot) (before after : List ℕ) (r : Slot) wh
       leaves-parts k (moved l (slotWith x k before)) before after r (clearedIf a k (rowsIn before)) (emptyIf a qs) (emptyIf a p)
       (g ∙ (λ z. withRows (clearedIf (e z) k (rows z)) (lists z))) (h qs p)
 
-  -- by an equal link
-  pub moves-as : (l′ : Link) → l ≡ l′ → Moves k l x before after r → Moves k l′ x before after r
-  moves-as l′ e h = subst (λ (y : Link). Moves k y x before after r) e h
-
 -- ---- in the table
 module _ (k : ℕ) (t t′ m m′ : List ℕ) (y : Slot) where
   pub put-at : ((j : ℕ) → slotIn t′ j ≡ on k y (slotIn t) j) → slotIn t′ k ≡ y

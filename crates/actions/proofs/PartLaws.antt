@@ -34,10 +34,6 @@ module _ (m : Memory) (k : ℕ) where
   pub kept-same : keptPut k (keptOf m k) m ≡ m
   kept-same = ap (λ (l : List (List ℕ)). record { rows = m .rows; requests = m .requests; kept = l }) (set-getD (m .kept) k [])
 
-  pub kept-twice : (a b : List ℕ) → keptPut k a (keptPut k b m) ≡ keptPut k a m
-  kept-twice a b =
-      ap (λ (l : List (List ℕ)). record { rows = m .rows; requests = m .requests; kept = l }) (set-set (m .kept) k b a)
-
   -- slot k's part as it was
   pub both-same : keptPut k (keptOf m k) (requestsPut k (requestsOf m k) m) ≡ m
   both-same = λ z. record {
@@ -157,10 +153,6 @@ module _ {k : ℕ} {slot : rules.Slot} {rows : List Row} {before after : List �
   -- with what is written
   pub acts : {p out out′ : List ℕ} {n : ℕ} → Wrote p out out′ n → Acts k slot rows p before after out out′ (record { slot = x; written = n })
   acts w = record { left = l; wrote = w }
-
-  -- nothing is
-  pub acts-silent : (out : List ℕ) → Acts k slot rows [] before after out out (record { slot = x; written = 0 })
-  acts-silent out = record { left = l; wrote = wrote-none out }
 
 -- after another event on the slot, which wrote nothing
 pub acts-then : {k : ℕ} {s₁ s₂ : rules.Slot} {r₁ r₂ : List Row} {p a b c out out′ : List ℕ} {x : Slot} {r : Acted}

@@ -1,7 +1,6 @@
 // Document 01, 'Poll': the Hello check, and the first packet that is due.
 ghost use mathlib.Core.Path.{_≡_};
 ghost use mathlib.Core.List.{List};
-ghost use Rattle.laws.specs.Choice.{pick};
 ghost use Rattle.protocol.specs.declared.Alignment.the-variants.{Summarize};
 ghost use Rattle.protocol.specs.Layouts.{packetOf};
 ghost use Rattle.rules.specs.Rows.{nextWaiting};

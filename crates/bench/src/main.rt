@@ -6,7 +6,6 @@ ghost use lib.ListN.{length};
 ghost use Rattle.memory.specs.Layout.{memorySize};
 use memory::rows::Found;
 use memory::store::Inserted;
-use protocol::CsaNumber;
 
 // The next of a row of numbers that go up and down.
 fn scrambled(x: u32) -> u32 {

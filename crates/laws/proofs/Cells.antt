@@ -126,17 +126,6 @@ module _ {A : Type 0} (d : A) (p : A → Bool) where
   change-update f (x ∷ xs) h =
       change-update-by f x xs h (change-update f xs (rest-at-most x xs h)) (p x) refl
 
--- then a test that implies p says of the cell that passes p what it says of the table
-module _ {A : Type 0} (d : A) (p q : A → Bool) (only : (x : A) → q x ≡ true → p x ≡ true) (past : q d ≡ false) where
-  one-tells-by : (l : List A) → AtMostOne d p l → (b : Bool) → has q l ≡ b → (i : ℕ) → p (getD l i d) ≡ true → q (getD l i d) ≡ b
-  one-tells-by l h true e i t =
-      let r = has-true d q l e in
-      rw (h i (r .0) t (only (getD l (r .0) d) (r .1))) (r .1)
-  one-tells-by l h false e i t = has-false d q past l e i
-
-  pub one-tells : (l : List A) → AtMostOne d p l → (i : ℕ) → p (getD l i d) ≡ true → q (getD l i d) ≡ has q l
-  one-tells l h i t = one-tells-by l h (has q l) refl i t
-
 -- ---- a change is at one cell, or nowhere
 module _ {A : Type 0} (d : A) where
   pub data Changed (p : A → Bool) (f : A → A) (l m : List A) : Type 0 where

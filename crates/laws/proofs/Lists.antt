@@ -6,7 +6,7 @@ use mathlib.Core.List.{List, [], _∷_, _++_, map}
 use native.Mathlib.Nat.{min-le-left, min-le-right, le-of-eq}
 use native.Mathlib.Numerals.{add-one}
 use native.Mathlib.Omega.{arith, min-cases}
-use lib.ListN.{length, getD, set, take, drop, take-append-drop, length-take, length-drop, length-append, length-map}
+use lib.ListN.{length, getD, set, take, drop, take-append-drop, length-take, length-drop, length-append}
 use lib.Seq.{take-all, take-length, length-take-le, getD-drop, drop-cons, drop-drop, take-add, take-append-seam, drop-append-seam}
 use Rattle.laws.specs.Lists.{part}
 
@@ -19,9 +19,6 @@ pub take-short : (n : ℕ) (l : List ℕ) → (length (take n l) ≤ n) × (leng
 take-short n l = (rw length-take (min-le-left n (length l)), rw length-take (min-le-right n (length l)))
 
 module _ {A : Type 0} where
-  pub length-mapped : {B : Type 0} (f : A → B) (l : List A) (n : ℕ) → length (map f l) ≡ n → length l ≡ n
-  length-mapped f l n e = sym (length-map l f) ∙ e
-
   -- as many taken as there are to take
   pub take-taken : (n : ℕ) (l : List A) → (length (take n l) ≤ length l) × (take (length (take n l)) l ≡ take n l)
   take-taken n l =

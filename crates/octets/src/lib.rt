@@ -115,14 +115,6 @@ pub fn put(out: &mut [u8], at: usize, src: &[u8]) -> usize
     to
 }
 
-// The first n octets of src, or all. Below the writers, as `put` is.
-pub fn put_first(out: &mut [u8], at: usize, src: &[u8], n: usize) -> usize
-    requires { ⌜ at + length (now src) ≤ length (now out) ⌝ }
-    ensures { λ r. ⌜ Put (take n (now (src .entry))) at (now (out .entry)) (now (out .exit)) r ⌝ }
-{
-    put(out, at, first(src, n))
-}
-
 // Whether a is greater: the first octet that differs decides.
 pub fn greater(a: &[u8], b: &[u8]) -> bool
     ensures { λ r. ⌜ r ≡ tables.greater (now (a .entry)) (now (b .entry)) ⌝ }

@@ -7,7 +7,7 @@ use mathlib.Core.List.{List}
 use Rattle.laws.specs.Tables.{on, has, same}
 use Rattle.laws.proofs.Bools.{and-true, pick-of}
 use Rattle.laws.proofs.Cells.{find-has, find-none}
-use Rattle.laws.proofs.Tables.{same-refl, same-true, same-sym}
+use Rattle.laws.proofs.Tables.{same-refl, same-true}
 use Rattle.protocol.specs.declared.CsaNumber.{CsaNumber}
 use Rattle.protocol.specs.Numbers.{newer}
 use Rattle.protocol.specs.Messages.{CsaRecord}
@@ -24,9 +24,6 @@ entry-true e f h =
     let q : e .key ≡ f .key = same-true (e .key) (f .key) (p .0) in
     let r : e .originator ≡ f .originator = same-true (e .originator) (f .originator) (p .1) in
     λ i. record { key = q i; originator = r i }
-
-pub entry-sym : (e f : Entry) → sameEntry e f ≡ sameEntry f e
-entry-sym e f = rw (same-sym (e .key) (f .key), same-sym (e .originator) (f .originator))
 
 -- a test goes along with the entry
 pub entry-along : {A : Type 0} (t : Entry → A) (e f : Entry) → sameEntry e f ≡ true → t e ≡ t f

@@ -28,9 +28,6 @@ past-twice (Summarize r) = refl
 past-twice Update = refl
 past-twice Aligned = refl
 
-pub pastLink-twice : (l : Link) → pastLink (pastLink l) ≡ pastLink l
-pastLink-twice l = ap (λ a. withAlignment a l) (past-twice (l .alignment))
-
 pub live-past : (a : Alignment) → isLive (pastAs a) ≡ isLive a
 live-past Down = refl
 live-past Negotiate = refl

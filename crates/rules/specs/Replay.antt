@@ -111,16 +111,9 @@ abbrev pub lineNumbers : List Line → List (List ℕ)
 lineNumbers [] = []
 lineNumbers (l ∷ ls) = l .numbers ∷ lineNumbers ls
 
-abbrev pub lineOctets : List Line → List (List ℕ)
-lineOctets [] = []
-lineOctets (l ∷ ls) = l .octets ∷ lineOctets ls
-
 unfoldable pub replayed : List ℕ → List Line
 replayed input = replay (startsGood input) input
 
--- the lines, and the octets written at each event beside them
+-- the numbers of the lines
 unfoldable pub linesOf : List ℕ → List (List ℕ)
 linesOf input = lineNumbers (replayed input)
-
-unfoldable pub writtenOf : List ℕ → List (List ℕ)
-writtenOf input = lineOctets (replayed input)

@@ -2,7 +2,6 @@
 ghost use mathlib.Core.Path.{_≡_};
 ghost use mathlib.Core.Bool.{_&&_};
 ghost use Rattle.rules.specs.Links as links;
-use crate::times;
 use protocol::Alignment;
 use protocol::HelloState;
 use protocol::Link;
@@ -102,22 +101,6 @@ pub fn to_other(l: Link, h: HelloState) -> Link
     with_states(l, h, Alignment::Down)
 }
 
-pub fn up_move(l: Link) -> Link
-    ensures { λ r. ⌜ r ≡ links.upMove l ⌝ }
-{
-    let h = l.hello;
-    if is_down(h) {
-        return to_other(l, HelloState::Waiting);
-    }
-    l
-}
-
-pub fn down_move(l: Link) -> Link
-    ensures { λ r. ⌜ r ≡ links.downMove l ⌝ }
-{
-    to_other(l, HelloState::Down)
-}
-
 fn recorded(l: Link, now: u32, interval: u16, factor: u16) -> Link
     ensures { λ r. ⌜ r ≡ links.recorded now interval factor l ⌝ }
 {
@@ -137,25 +120,4 @@ pub fn hello_move(l: Link, now: u32, interval: u16, factor: u16, named: bool) ->
         return to_bidirectional(x);
     }
     to_other(x, HelloState::Unidirectional)
-}
-
-// A malformed Hello.
-pub fn malformed_move(l: Link) -> Link
-    ensures { λ r. ⌜ r ≡ links.malformedMove l ⌝ }
-{
-    to_other(l, HelloState::Waiting)
-}
-
-// The Hello check of a poll.
-pub fn check_move(l: Link, now: u32) -> Link
-    ensures { λ r. ⌜ r ≡ links.checkMove now l ⌝ }
-{
-    let h = l.hello;
-    if hears_peer(h) {
-        if times::stale(l.interval, l.factor, l.heard, now) {
-            return to_other(l, HelloState::Waiting);
-        }
-        return l;
-    }
-    l
 }

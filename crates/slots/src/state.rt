@@ -141,33 +141,7 @@ pub fn with_listed(x: Slot, listed: usize) -> Slot
     y
 }
 
-pub fn with_cursor(x: Slot, cursor: u32) -> Slot
-    ensures { λ r. ⌜ ((qs : List Request) (kept : List ℕ) → slotOf r qs kept ≡ rules.withCursor cursor (slotOf x qs kept)) ⌝ }
-{
-    let mut y = x;
-    y.cursor = cursor;
-    y
-}
-
 // ---- when packets were sent
-pub fn hello_sent(x: Slot, t: Last) -> Slot
-    ensures { λ r. ⌜ ((qs : List Request) (kept : List ℕ) → slotOf r qs kept ≡ rules.helloSent t (slotOf x qs kept)) ⌝ }
-{
-    let old = x.timers;
-    let ca = old.ca;
-    let csus = old.csus;
-    let update = old.update;
-    let timers = Timers {
-        hello: t,
-        ca,
-        csus,
-        update,
-    };
-    let mut y = x;
-    y.timers = timers;
-    y
-}
-
 pub fn ca_sent(x: Slot, now: u32) -> Slot
     ensures { λ r. ⌜ ((qs : List Request) (kept : List ℕ) → slotOf r qs kept ≡ rules.caSent now (slotOf x qs kept)) ⌝ }
 {
@@ -180,42 +154,6 @@ pub fn ca_sent(x: Slot, now: u32) -> Slot
         ca: Last::At(now),
         csus,
         update,
-    };
-    let mut y = x;
-    y.timers = timers;
-    y
-}
-
-pub fn csus_sent(x: Slot, now: u32) -> Slot
-    ensures { λ r. ⌜ ((qs : List Request) (kept : List ℕ) → slotOf r qs kept ≡ rules.csusSent now (slotOf x qs kept)) ⌝ }
-{
-    let old = x.timers;
-    let hello = old.hello;
-    let ca = old.ca;
-    let update = old.update;
-    let timers = Timers {
-        hello,
-        ca,
-        csus: Last::At(now),
-        update,
-    };
-    let mut y = x;
-    y.timers = timers;
-    y
-}
-
-pub fn update_sent(x: Slot, now: u32) -> Slot
-    ensures { λ r. ⌜ ((qs : List Request) (kept : List ℕ) → slotOf r qs kept ≡ rules.updateSent now (slotOf x qs kept)) ⌝ }
-{
-    let old = x.timers;
-    let hello = old.hello;
-    let ca = old.ca;
-    let csus = old.csus;
-    let timers = Timers {
-        hello,
-        ca,
-        csus,
-        update: Last::At(now),
     };
     let mut y = x;
     y.timers = timers;
