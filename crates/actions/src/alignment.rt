@@ -54,7 +54,8 @@ pub fn send_ca(
     picks: Picks,
     out: &mut [u8],
 ) -> usize
-    requires { ⌜ ((length (now memory) ≡ memorySize) × ((k < 8) × (284 ≤ length (now out)))) × ((picks .count ≤ 4) × (length (picks .rows) ≡ 4)) ⌝ }
+    requires { ⌜ ((length (now memory) ≡ memorySize) × ((k < 8) × (284 ≤ length (now out))))
+        × ((picks .count ≤ 4) × (length (picks .rows) ≡ 4)) ⌝ }
     ensures { λ r. ⌜ SendsCa k (packetOf (ourMessage c (ca number flags (rowsOf rules.summaryRecord (rowsIn (now (memory .entry))) (picksOf picks)))))
         (now (memory .entry)) (now (memory .exit)) (now (out .entry)) (now (out .exit)) r ⌝ }
 {
@@ -166,7 +167,8 @@ fn send_answer(
     picks: Picks,
     out: &mut [u8],
 ) -> Acted
-    requires { ⌜ ((length (now memory) ≡ memorySize) × ((k < 8) × (284 ≤ length (now out)))) × ((picks .count ≤ 4) × (length (picks .rows) ≡ 4)) ⌝ }
+    requires { ⌜ ((length (now memory) ≡ memorySize) × ((k < 8) × (284 ≤ length (now out))))
+        × ((picks .count ≤ 4) × (length (picks .rows) ≡ 4)) ⌝ }
     ensures { λ r. ⌜ (let m = slots.toPeer (settingsOf s) (slotWith x k (now (memory .entry)))
         (ca (x .link .number) (rules.caFlags (isMaster (x .link .role)) (x .link .more)) (rowsOf rules.summaryRecord (rowsIn (now (memory .entry)))
         (picksOf picks))) in Acts k (slots.completed (rules.keeping (newPacket m) time (picks .next) (slotWith x k (now (memory .entry)))))
@@ -201,7 +203,8 @@ fn answer(
     rule: CaRule,
     out: &mut [u8],
 ) -> Acted
-    requires { ⌜ ((length (now memory) ≡ memorySize) × ((k < 8) × (284 ≤ length (now out)))) × (Walks (now p) (h .records) × (answers (ruleOf rule) ≡ true)) ⌝ }
+    requires { ⌜ ((length (now memory) ≡ memorySize) × ((k < 8) × (284 ≤ length (now out))))
+        × (Walks (now p) (h .records) × (answers (ruleOf rule) ≡ true)) ⌝ }
     ensures { λ r. ⌜ Acts k (rules.caSlot (ruleOf rule) (settingsOf s) time (rowsIn (now (memory .entry))) (caPacketAt (now (p .entry)) h)
         (slotWith x k (now (memory .entry)))) (rowsIn (now (memory .entry))) (octetsOf (rules.caSentBy (ruleOf rule) (settingsOf s)
         (rowsIn (now (memory .entry))) (caPacketAt (now (p .entry)) h) (slotWith x k (now (memory .entry))))) (now (memory .entry)) (now (memory .exit))
@@ -229,7 +232,8 @@ pub fn repeat(memory: &[u8], k: usize, time: u32, x: Slot, out: &mut [u8]) -> Ac
 fn done(memory: &mut [u8], p: &[u8], h: Head, k: usize, x: Slot) -> Slot
     requires { ⌜ (length (now memory) ≡ memorySize) × ((k < 8) × Walks (now p) (h .records)) ⌝ }
     ensures { λ r. ⌜ Leaves k (slots.completed (slots.withKept [] (rules.taking links.masterDone (rowsIn (now (memory .entry)))
-        (caPacketAt (now (p .entry)) h) (slotWith x k (now (memory .entry)))))) (rowsIn (now (memory .entry))) (now (memory .entry)) (now (memory .exit)) r ⌝ }
+        (caPacketAt (now (p .entry)) h) (slotWith x k (now (memory .entry)))))) (rowsIn (now (memory .entry))) (now (memory .entry))
+        (now (memory .exit)) r ⌝ }
 {
     let old = x.link;
     let l = alignment::ca_move(CaRule::MasterDone, head_of(p), old.more, old);

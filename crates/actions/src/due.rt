@@ -82,7 +82,8 @@ fn update_passed(slots: &[usize], k: usize, time: u32) -> bool
 // The rows that wait, from the slot's cursor on.
 fn next_rows(slots: &[usize], memory: &[u8], k: usize) -> Picks
     requires { ⌜ (length (now slots) ≡ tableSize) × ((length (now memory) ≡ memorySize) × (k < 8)) ⌝ }
-    ensures { λ r. ⌜ Picked (slotIn (now (slots .entry)) k .cursor) (nextWaiting (rowsIn (now (memory .entry))) k (slotIn (now (slots .entry)) k .cursor)) r ⌝ }
+    ensures { λ r. ⌜ Picked (slotIn (now (slots .entry)) k .cursor)
+        (nextWaiting (rowsIn (now (memory .entry))) k (slotIn (now (slots .entry)) k .cursor)) r ⌝ }
 {
     next::next_waiting(memory, k, fields::cursor_at(slots, k) as usize)
 }

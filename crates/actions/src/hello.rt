@@ -55,7 +55,8 @@ pub fn take_hello(
     k: usize,
     time: u32,
 )
-    requires { ⌜ ((length (now slots) ≡ tableSize) × ((length (now memory) ≡ memorySize) × (k < 8))) × (h .records .at + h .records .left * 65535 ≤ 1048576) ⌝ }
+    requires { ⌜ ((length (now slots) ≡ tableSize) × ((length (now memory) ≡ memorySize) × (k < 8)))
+        × (h .records .at + h .records .left * 65535 ≤ 1048576) ⌝ }
     ensures { λ _. ⌜ MovesAt k (links.helloMove time (field2 (now (p .entry)) 8) (field2 (now (p .entry)) 10)
         (rules.namesUs (now (id .entry)) (messageOf (now (p .entry)) h .receiver) (receiversOf (now (p .entry)) (h .records)))
         (slotIn (now (slots .entry)) k .link)) (now (slots .entry)) (now (slots .exit)) (now (memory .entry)) (now (memory .exit)) ⌝ }

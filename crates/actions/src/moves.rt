@@ -71,7 +71,8 @@ pub fn hear(
 // ---- the Hello check of a poll
 fn is_stale(slots: &[usize], k: usize, time: u32) -> bool
     requires { ⌜ (length (now slots) ≡ tableSize) × (k < 8) ⌝ }
-    ensures { λ r. ⌜ r ≡ (let l = slotIn (now (slots .entry)) k .link in links.hearsPeer (l .hello) && stale (l .interval) (l .factor) (l .heard) time) ⌝ }
+    ensures { λ r. ⌜ r ≡ (let l = slotIn (now (slots .entry)) k .link in links.hearsPeer (l .hello)
+        && stale (l .interval) (l .factor) (l .heard) time) ⌝ }
 {
     let h = table::hello_at(slots, k);
     if hello::hears_peer(h) {
@@ -95,7 +96,8 @@ pub fn check(slots: &mut [usize], memory: &mut [u8], k: usize, time: u32)
 // Update with an empty request list becomes Aligned.
 pub fn put_completed(slots: &mut [usize], memory: &[u8], k: usize)
     requires { ⌜ (length (now slots) ≡ tableSize) × ((length (now memory) ≡ memorySize) × (k < 8)) ⌝ }
-    ensures { λ _. ⌜ Changes k (λ x. withLink (links.withAlignment (alignedIf (isEmpty (requestsOf (memoryOf (now (memory .entry))) k)) (x .link .alignment))
+    ensures { λ _. ⌜ Changes k (λ x. withLink (links.withAlignment
+        (alignedIf (isEmpty (requestsOf (memoryOf (now (memory .entry))) k)) (x .link .alignment))
         (x .link)) x) (now (slots .entry)) (now (slots .exit)) ⌝ }
 {
     let a = table::alignment_at(slots, k);

@@ -41,7 +41,8 @@ pub struct Chunk {
 // The line of an answer.
 fn put_answer(text: &mut [u8], at: usize, number: u64, a: Answer, memory: &[u8; 21504]) -> usize
     requires { ⌜ at + 84 ≤ length (now text) ⌝ }
-    ensures { λ r. ⌜ PutsNumbers (number ∷ codeNumber (a .outcome) ∷ a .written ∷ rowsUsed (rowsIn (now (memory .entry))) ∷ []) at (now (text .entry))
+    ensures { λ r. ⌜ PutsNumbers (number ∷ codeNumber (a .outcome) ∷ a .written ∷ rowsUsed (rowsIn (now (memory .entry))) ∷ []) at
+        (now (text .entry))
         (now (text .exit)) r ⌝ }
     ensures most { λ r. ⌜ r ≤ at + 84 ⌝ }
 {

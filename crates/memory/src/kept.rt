@@ -57,7 +57,8 @@ pub fn kept_of(memory: &[u8], k: usize) -> &[u8]
 // The kept CA is written out: its length.
 pub fn copy_kept(memory: &[u8], k: usize, out: &mut [u8]) -> usize
     requires { ⌜ (k < 8) × ((284 ≤ length (now out)) × (length (now memory) ≡ memorySize)) ⌝ }
-    ensures { λ r. ⌜ (r ≡ length (keptIn (now (memory .entry)) k)) × (now (out .exit) ≡ written (keptIn (now (memory .entry)) k) (now (out .entry))) ⌝ }
+    ensures { λ r. ⌜ (r ≡ length (keptIn (now (memory .entry)) k))
+        × (now (out .exit) ≡ written (keptIn (now (memory .entry)) k) (now (out .entry))) ⌝ }
 {
     octets::put(out, 0, kept_of(memory, k))
 }

@@ -170,7 +170,8 @@ pub fn reply_mark(memory: &mut [u8], i: usize, k: usize, number: CsaNumber)
 // No row waits for slot k.
 pub fn clear_slot(memory: &mut [u8], k: usize)
     requires { ⌜ (length (now memory) ≡ memorySize) × (k < slotsMost) ⌝ }
-    ensures { λ _. ⌜ memoryOf (now (memory .exit)) ≡ withRows (map (rules.unmarked k) (rowsIn (now (memory .entry)))) (memoryOf (now (memory .entry))) ⌝ }
+    ensures { λ _. ⌜ memoryOf (now (memory .exit)) ≡ withRows (map (rules.unmarked k) (rowsIn (now (memory .entry))))
+        (memoryOf (now (memory .entry))) ⌝ }
 {
     let mut i: usize = 0;
     while i < ROWS {

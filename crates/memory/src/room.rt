@@ -123,7 +123,8 @@ fn head(n: u8, bits: u32) -> [u8; 28]
 
 fn pack(name: &[u8], number: CsaNumber) -> [u8; 28]
     requires { ⌜ FitsName (now name) ⌝ }
-    ensures { λ r. ⌜ (length r ≡ 28) × (requestOf (tagOf (now (name .entry))) r ≡ record { entry = entryNamed (now (name .entry)); number = number }) ⌝ }
+    ensures { λ r. ⌜ (length r ≡ 28) × (requestOf (tagOf (now (name .entry))) r
+        ≡ record { entry = entryNamed (now (name .entry)); number = number }) ⌝ }
 {
     let b = head((name.len() - ID) as u8, numbers::bits_of(number));
     put_in(b, NAME_PLACE, name)

@@ -23,7 +23,8 @@ use writer::write::put_record;
 // N set, the asked number, hop count 1.
 fn put_null(out: &mut [u8], at: usize, number: CsaNumber, name: &[u8]) -> usize
     requires { ⌜ FitsName (now name) × (at + 64 ≤ length (now out)) ⌝ }
-    ensures { λ n. ⌜ ((v : CsaRecord) → Named v (now (name .entry)) number → Puts 64 (rules.nullRecord v ∷ []) at (now (out .entry)) (now (out .exit)) n) ⌝ }
+    ensures { λ n. ⌜ ((v : CsaRecord) → Named v (now (name .entry)) number
+        → Puts 64 (rules.nullRecord v ∷ []) at (now (out .entry)) (now (out .exit)) n) ⌝ }
 {
     let none = [0u8; 0];
     put_record(out, at, 1, true, number, name, &none)
@@ -51,7 +52,8 @@ fn solicit_row(
 // The answer to the record at r.
 fn solicit_one(memory: &[u8], p: &[u8], r: usize, out: &mut [u8], at: usize) -> usize
     requires { ⌜ (length (now memory) ≡ memorySize) × (FitsAt (now p) r × (at + 64 ≤ length (now out))) ⌝ }
-    ensures { λ n. ⌜ Puts 64 (rules.solicited (rowsIn (now (memory .entry))) (recordAt (now (p .entry)) r) ∷ []) at (now (out .entry)) (now (out .exit)) n ⌝ }
+    ensures { λ n. ⌜ Puts 64 (rules.solicited (rowsIn (now (memory .entry))) (recordAt (now (p .entry)) r) ∷ []) at (now (out .entry))
+        (now (out .exit)) n ⌝ }
 {
     let name = record::name(p, r);
     let number = record::number(p, r);
@@ -64,7 +66,8 @@ fn solicit_one(memory: &[u8], p: &[u8], r: usize, out: &mut [u8], at: usize) -> 
 // A record for each that the cursor has before it, in order, from octet 28 on: the place behind them.
 pub fn solicit_all(memory: &[u8], p: &[u8], c: Cursor, out: &mut [u8]) -> usize
     requires { ⌜ (length (now memory) ≡ memorySize) × (Walks (now p) c × (284 ≤ length (now out))) ⌝ }
-    ensures { λ n. ⌜ Puts 64 (rules.allSolicited (rowsIn (now (memory .entry))) (recordsOf (now (p .entry)) c)) 28 (now (out .entry)) (now (out .exit)) n ⌝ }
+    ensures { λ n. ⌜ Puts 64 (rules.allSolicited (rowsIn (now (memory .entry))) (recordsOf (now (p .entry)) c)) 28 (now (out .entry))
+        (now (out .exit)) n ⌝ }
 {
     let mut at = c.at;
     let mut left = c.left;

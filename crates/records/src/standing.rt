@@ -58,7 +58,8 @@ fn held_rule(number: CsaNumber, held: CsaNumber) -> UpdateRule
 // The rule that an update record takes, by the row that was found for its entry.
 pub fn update_rule(memory: &[u8], null: bool, number: CsaNumber, found: Found) -> UpdateRule
     requires { ⌜ (length (now memory) ≡ memorySize) × FoundBelow found ⌝ }
-    ensures { λ r. ⌜ ((v : CsaRecord) → null ≡ v .null → number ≡ v .number → found ≡ firstFrom (holds (entryOf v)) 0 (rowsIn (now (memory .entry)))
+    ensures { λ r. ⌜ ((v : CsaRecord) → null ≡ v .null → number ≡ v .number → found
+        ≡ firstFrom (holds (entryOf v)) 0 (rowsIn (now (memory .entry)))
         → updateRuleOf r ≡ updateRule v (rowsIn (now (memory .entry)))) ⌝ }
 {
     if null {

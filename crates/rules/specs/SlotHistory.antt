@@ -112,7 +112,9 @@ quiet e l x =
     let sent = sentFrom (x .link .alignment) (l .alignment) (x .sent) in
     record {
       link = l;
-      kept = pick (enters (x .link .alignment) (l .alignment) || (masterEnters (x .link .alignment) (l .alignment) || dropsAt e (l .alignment) sent)) false (x .kept);
+      kept =
+          pick (enters (x .link .alignment) (l .alignment) || (masterEnters (x .link .alignment) (l .alignment) || dropsAt e (l .alignment) sent)) false
+          (x .kept);
       sent = sent;
     }
 

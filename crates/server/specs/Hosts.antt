@@ -35,7 +35,8 @@ seen e r out = record { event = e; code = codeNumber (r .outcome); written = tak
 
 -- a host that called `start` with these settings holds a server, its slots and its memory, and saw these calls since
 pub data Hosted (c : Settings) : Server → List ℕ → List ℕ → List Item → Type 0 where
-  started : {slots slots′ before after : List ℕ} {r : Answer} → Starts c slots slots′ before after r → codeNumber (r .outcome) ≡ 0 → Hosted c (r .server) slots′ after []
+  started : {slots slots′ before after : List ℕ} {r : Answer}
+      → Starts c slots slots′ before after r → codeNumber (r .outcome) ≡ 0 → Hosted c (r .server) slots′ after []
   called : {s : Server} {slots slots′ before after : List ℕ} {is : List Item} {e : Event} {r : Answer}
       → Hosted c s slots before is → usesOut e ≡ false → Does e s slots slots′ before after r → Hosted c (r .server) slots′ after (is ++ (seen e r [] ∷ []))
   wrote : {s : Server} {slots slots′ before after out out′ : List ℕ} {is : List Item} {e : Event} {r : Answer}

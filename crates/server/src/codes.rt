@@ -45,7 +45,8 @@ fn in_group(s: Settings, h: Head) -> bool
 
 // Whether the packet is for somebody else.
 fn is_for_other(id: &[u8], p: &[u8], h: Head) -> bool
-    ensures { λ r. ⌜ r ≡ (not (rules.isHello (messageOf (now (p .entry)) h .body)) && not (same (messageOf (now (p .entry)) h .receiver) (now (id .entry)))) ⌝ }
+    ensures { λ r. ⌜ r ≡ (not (rules.isHello (messageOf (now (p .entry)) h .body))
+        && not (same (messageOf (now (p .entry)) h .receiver) (now (id .entry)))) ⌝ }
 {
     if is_hello(h) {
         return false;

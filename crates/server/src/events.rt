@@ -26,7 +26,8 @@ pub fn add_peer(
     slot: usize,
     id: &[u8],
 ) -> Answer
-    ensures { λ r. ⌜ Does (events.addPeer slot (now (id .entry))) s (now (slots .entry)) (now (slots .exit)) (now (memory .entry)) (now (memory .exit)) r ⌝ }
+    ensures { λ r. ⌜ Does (events.addPeer slot (now (id .entry))) s (now (slots .entry)) (now (slots .exit)) (now (memory .entry))
+        (now (memory .exit)) r ⌝ }
 {
     octets::bounded(id);
     peers::add_peer(s, slots, memory, slot, id)

@@ -67,7 +67,8 @@ fn own_at(memory: &[u8], i: usize) -> Own
 
 fn own_of(memory: &[u8], found: Found) -> Own
     requires { ⌜ (length (now memory) ≡ memorySize) × FoundBelow found ⌝ }
-    ensures { λ r. ⌜ ((e : Entry) → found ≡ firstFrom (holds e) 0 (rowsIn (now (memory .entry))) → r ≡ ownOf (entryRow e (rowsIn (now (memory .entry))))) ⌝ }
+    ensures { λ r. ⌜ ((e : Entry) → found ≡ firstFrom (holds e) 0 (rowsIn (now (memory .entry))) → r
+        ≡ ownOf (entryRow e (rowsIn (now (memory .entry))))) ⌝ }
 {
     match found {
         Found::At(i) => own_at(memory, i),
@@ -121,7 +122,8 @@ fn payload_good(payload: &[u8]) -> bool
 // ---- set
 fn set_code(memory: &[u8], found: Found) -> Outcome
     requires { ⌜ (length (now memory) ≡ memorySize) × FoundBelow found ⌝ }
-    ensures { λ r. ⌜ ((s : declared.Server) (slots key payload : List ℕ) → rules.ownKeyGood key ≡ true → rules.ownPayloadGood payload ≡ true → found
+    ensures { λ r. ⌜ ((s : declared.Server) (slots key payload : List ℕ) → rules.ownKeyGood key ≡ true → rules.ownPayloadGood payload
+        ≡ true → found
         ≡ firstFrom (holds (ownEntry (settingsOf (s .settings)) key)) 0 (rowsIn (now (memory .entry))) → codeNumber r
         ≡ rules.setCode (serverOf s slots (now (memory .entry))) key payload) ⌝ }
 {
@@ -209,7 +211,8 @@ fn withdraw_taken(slots: &[usize], memory: &mut [u8], found: Found)
 
 pub fn withdraw(s: Server, slots: &[usize], memory: &mut [u8], key: &[u8]) -> Answer
     requires { ⌜ (length (now slots) ≡ tableSize) × (length (now memory) ≡ memorySize) ⌝ }
-    ensures { λ r. ⌜ Steps (events.withdraw (now (key .entry))) s (now (slots .entry)) (now (slots .entry)) (now (memory .entry)) (now (memory .exit)) r ⌝ }
+    ensures { λ r. ⌜ Steps (events.withdraw (now (key .entry))) s (now (slots .entry)) (now (slots .entry)) (now (memory .entry))
+        (now (memory .exit)) r ⌝ }
 {
     if !key_good(key) {
         return answers::refuse(s, Failure::Size);

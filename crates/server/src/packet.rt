@@ -196,7 +196,8 @@ fn message(
     time: u32,
     out: &mut [u8],
 ) -> Answer
-    requires { ⌜ ((length (now slots) ≡ tableSize) × (length (now memory) ≡ memorySize)) × (((k < 8) × (284 ≤ length (now out))) × Reaches (now p) h) ⌝ }
+    requires { ⌜ ((length (now slots) ≡ tableSize) × (length (now memory) ≡ memorySize))
+        × (((k < 8) × (284 ≤ length (now out))) × Reaches (now p) h) ⌝ }
     ensures { λ r. ⌜ DoesRead (reading.message (messageOf (now (p .entry)) h)) (now (p .entry)) k time s (now (slots .entry)) (now (slots .exit))
         (now (memory .entry)) (now (memory .exit)) (now (out .entry)) (now (out .exit)) r ⌝ }
 {
