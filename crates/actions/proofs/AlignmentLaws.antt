@@ -28,7 +28,8 @@ use Rattle.wire.specs.Views.{messageOf}
 use Rattle.slots.specs.declared.state.Slot.{Slot}
 use Rattle.slots.specs.State.{slotOf, caIn}
 use Rattle.table.specs.Words.{slotIn, Changes}
-use Rattle.actions.specs.Parts.{slotWith, Wrote}
+use Rattle.writer.specs.Write.{Wrote}
+use Rattle.actions.specs.Parts.{slotWith}
 use Rattle.actions.specs.Steps.{SendsCa, headAt, caPacketAt}
 
 -- ---- a CA is kept

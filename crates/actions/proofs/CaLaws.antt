@@ -25,8 +25,7 @@ use Rattle.rules.specs.Sent.{newPacket, octetsOf}
 use Rattle.rules.specs.Alignment.{CaPacket, summaryRecord, answerFrom, answerTo, answerMore, caFlags, caSentBy, wantedOf, withWanted, taking, keeping, answering, caSlot}
 use Rattle.rules.proofs.PastLaws.{enters-same, moved-link}
 use Rattle.memory.specs.declared.next.Picks.{Picks}
-use Rattle.memory.specs.Memory as memories
-use Rattle.memory.specs.Memory.{rowsIn, keptIn, Memory, memoryOf, requestsOf, keptOf}
+use Rattle.memory.specs.Memory.{rowsIn, keptIn, Memory, memoryOf, requestsOf, keptOf, keptPut}
 use Rattle.memory.specs.Marks.{picksOf, Picked}
 use Rattle.records.specs.Walks.{TakesAll}
 use Rattle.wire.specs.declared.read.Head.{Head}
@@ -36,7 +35,8 @@ use Rattle.slots.specs.declared.state.Settings.{Settings}
 use Rattle.slots.specs.declared.state.Slot.{Slot}
 use Rattle.slots.specs.State.{settingsOf, slotOf, caIn}
 use Rattle.actions.specs.declared.parts.Acted.{Acted}
-use Rattle.actions.specs.Parts.{slotWith, Leaves, Moves, Wrote, Acts}
+use Rattle.writer.specs.Write.{Wrote}
+use Rattle.actions.specs.Parts.{slotWith, Leaves, Moves, Acts}
 use Rattle.actions.specs.Steps.{commonOf, ourMessage, SendsCa, headAt, caPacketAt, isMaster, answers, takingIn, TakesCa}
 use Rattle.actions.proofs.PartLaws.{kept-eight, kept-put, left-rows, left-slot, leaves-as, leaves-then, leaves-requests, leaves-kept, leaves-same, wrote-none, acts-then}
 use Rattle.actions.proofs.AlignmentLaws.{kept-of}
@@ -62,7 +62,7 @@ messageBy s x rows l =
 abbrev sentSlot : rules.Settings → ℕ → rules.Slot → List Row → List ℕ → ℕ → rules.Slot
 sentSlot s now x rows l to = completed (keeping (newPacket (messageBy s x rows l)) now to x)
 
-module _ (k : ℕ) (q : List ℕ) (before after : List ℕ) (h : k < 8) (m : memoryOf after ≡ memories.keptPut k q (memoryOf before)) where
+module _ (k : ℕ) (q : List ℕ) (before after : List ℕ) (h : k < 8) (m : memoryOf after ≡ keptPut k q (memoryOf before)) where
   kept-requests : requestsOf (memoryOf after) k ≡ requestsOf (memoryOf before) k
   kept-requests = ap (λ (x : Memory). requestsOf x k) m
 
@@ -243,7 +243,7 @@ module _ (u : CaRule) (h : answers u ≡ true) (k time : ℕ) (s : rules.Setting
 pub done-leaves : (k : ℕ) (p : List ℕ) (head : Head) (x y r : Slot) (l : Link) (seen : CaHead) (before mid after : List ℕ) → k < 8 → seen ≡ headAt p
     → ((sender : List ℕ) (empty : Bool) → l ≡ caMove masterDone (caIn seen sender empty) (x .link .more) (x .link))
     → Leaves k (takingIn l (rowsIn before) (recordsOf p (head .records)) (slotWith x k before)) (rowsIn before) before mid y
-    → memoryOf after ≡ memories.keptPut k [] (memoryOf mid) → slotWith r k after ≡ completed (slotWith y k after)
+    → memoryOf after ≡ keptPut k [] (memoryOf mid) → slotWith r k after ≡ completed (slotWith y k after)
     → Leaves k (completed (withKept [] (taking masterDone (rowsIn before) (caPacketAt p head) (slotWith x k before)))) (rowsIn before) before after r
 done-leaves k p head x y r l seen before mid after lt eh el left m er =
     let X : rules.Slot = slotWith x k before in

@@ -17,8 +17,7 @@ use Rattle.rules.specs.Sent.{nothing, newPacket, octetsOf}
 use Rattle.records.specs.declared.put.Placed.{Placed}
 use Rattle.records.specs.Places.{Puts, Places}
 use Rattle.writer.specs.declared.write.Common.{Common}
-use Rattle.writer.specs.Write.{FinishesWith}
-use Rattle.actions.specs.Parts.{Wrote}
+use Rattle.writer.specs.Write.{FinishesWith, Wrote}
 use Rattle.actions.specs.Steps.{ourMessage, WritesSome}
 use Rattle.actions.proofs.PartLaws.{wrote-none}
 

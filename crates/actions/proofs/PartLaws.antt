@@ -16,7 +16,8 @@ use Rattle.records.proofs.MemoryLaws.{lists-eight, memory-rows}
 use Rattle.slots.specs.declared.state.Slot.{Slot}
 use Rattle.slots.specs.State.{slotOf}
 use Rattle.actions.specs.declared.parts.Acted.{Acted}
-use Rattle.actions.specs.Parts.{slotWith, Leaves, Wrote, Acts}
+use Rattle.writer.specs.Write.{Wrote}
+use Rattle.actions.specs.Parts.{slotWith, Leaves, Acts}
 
 -- ---- kept CAs
 pub kept-eight : (s : List ℕ) → length (memoryOf s .kept) ≡ 8

@@ -21,12 +21,12 @@ use Rattle.rules.specs.Sent.{Sent, octetsOf}
 use Rattle.rules.specs.Poll as poll
 use Rattle.rules.specs.Poll.{caInterval, dueIn, dueSlot, dueSent, keptDropped, checked, pollSlot, pollSent}
 use Rattle.rules.proofs.PastLaws.{enters-same, moved-link}
-use Rattle.memory.specs.Memory.{rowsIn, memoryOf}
-use Rattle.memory.specs.Memory as memories
+use Rattle.memory.specs.Memory.{rowsIn, memoryOf, keptPut}
 use Rattle.slots.specs.declared.state.Slot.{Slot}
 use Rattle.actions.specs.declared.due.Plan.{Plan}
 use Rattle.table.specs.Words.{slotIn}
-use Rattle.actions.specs.Parts.{slotWith, slotNow, Leaves, MovesAt, Wrote, ActsAt}
+use Rattle.writer.specs.Write.{Wrote}
+use Rattle.actions.specs.Parts.{slotWith, slotNow, Leaves, MovesAt, ActsAt}
 use Rattle.actions.specs.Steps.{dueKind, Plans, PollsAt}
 use Rattle.actions.proofs.PartLaws.{left-rows, left-slot, leaves-as, leaves-then, leaves-same, leaves-kept}
 
@@ -61,7 +61,7 @@ module _ (k : ℕ) (x : Slot) (m : List ℕ) (past old : Bool) where
   pub drop-young : past ≡ true → old ≡ false → Leaves k dropped (rowsIn m) m m x
   drop-young e f = leaves-same k dropped m x (rw (e, f))
 
-  pub drop-done : (m′ : List ℕ) → past ≡ true → old ≡ true → memoryOf m′ ≡ memories.keptPut k [] (memoryOf m) → Leaves k dropped (rowsIn m) m m′ x
+  pub drop-done : (m′ : List ℕ) → past ≡ true → old ≡ true → memoryOf m′ ≡ keptPut k [] (memoryOf m) → Leaves k dropped (rowsIn m) m m′ x
   drop-done m′ e f h = leaves-kept k dropped m m′ x [] h (rw (e, f))
 
 -- ---- the link of the slot after each part

@@ -26,14 +26,14 @@ use Rattle.memory.specs.Marks.{picksOf, Picked}
 use Rattle.memory.proofs.Rooms.{requests-of}
 use Rattle.records.proofs.MemoryLaws.{requests-same}
 use Rattle.writer.specs.declared.write.Common.{Common}
-use Rattle.writer.specs.Write.{helloMessage}
+use Rattle.writer.specs.Write.{helloMessage, Wrote}
 use Rattle.slots.specs.declared.state.Settings.{Settings}
 use Rattle.slots.specs.declared.state.Slot.{Slot}
 use Rattle.slots.specs.State.{settingsOf, slotOf}
 use Rattle.table.specs.Words.{slotIn, Changes}
 use Rattle.actions.specs.declared.due.Due.{Due}
 use Rattle.actions.specs.declared.due.Due.the-variants.{Nothing, Hello, FirstCa, KeptCa, Csus, Update}
-use Rattle.actions.specs.Parts.{slotWith, slotNow, Wrote, ActsAt}
+use Rattle.actions.specs.Parts.{slotWith, slotNow, ActsAt}
 use Rattle.actions.specs.Steps.{commonOf, ourMessage, SendsCa, SendsCsus, dueKind, noPicks, GoodPicks, WritesDue, PutsDue}
 use Rattle.actions.proofs.AlignmentLaws.{kept-of}
 use Rattle.actions.proofs.PartLaws.{kept-same, both-same, leaves-lists, wrote-none}

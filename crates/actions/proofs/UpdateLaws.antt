@@ -16,8 +16,7 @@ use Rattle.rules.specs.Links.{withAlignment}
 use Rattle.rules.specs.Slots.{withLink, alignedIf, completed, withKept}
 use Rattle.rules.specs.Sent.{octetsOf}
 use Rattle.rules.specs.Packets.{updatedBy, unlessEmpty}
-use Rattle.memory.specs.Memory.{rowsIn, Memory, memoryOf, withRows, requestsPut, requestsOf, keptOf}
-use Rattle.memory.specs.Memory as memories
+use Rattle.memory.specs.Memory.{rowsIn, Memory, memoryOf, withRows, requestsPut, requestsOf, keptOf, keptPut}
 use Rattle.wire.specs.declared.record.Cursor.{Cursor}
 use Rattle.wire.specs.Views.{recordsOf}
 use Rattle.records.specs.declared.put.Placed.{Placed}
@@ -30,7 +29,8 @@ use Rattle.slots.specs.declared.state.Settings.{Settings}
 use Rattle.slots.specs.declared.state.Slot.{Slot}
 use Rattle.slots.specs.State.{settingsOf, slotOf}
 use Rattle.table.specs.Words.{slotIn, Changes}
-use Rattle.actions.specs.Parts.{slotWith, Wrote}
+use Rattle.writer.specs.Write.{Wrote}
+use Rattle.actions.specs.Parts.{slotWith}
 use Rattle.actions.specs.Steps.{commonOf, ourMessage, WritesSome, TakesRequest, TakesCsus}
 use Rattle.actions.proofs.PartLaws.{leaves-both, leaves-kept}
 use Rattle.actions.proofs.FinishLaws.{puts-within, places-within, octets-unless}
@@ -114,7 +114,7 @@ solicited-within rows p at out mid next walks puts =
 pub csus-taken : (s : Settings) (k : ℕ) (p : List ℕ) (at : Cursor) (before after t : List ℕ) (c : Common) (out mid out′ : List ℕ) (next n : ℕ)
     → 284 ≤ length out → Walks p at → c ≡ commonOf s (slotIn t k .peer) → Puts 64 (allSolicited (rowsIn before) (recordsOf p at)) 28 out mid next
     → WritesSome csuRequest c (at .left) next mid out′ n
-    → memoryOf after ≡ memories.keptPut k [] (memoryOf before)
+    → memoryOf after ≡ keptPut k [] (memoryOf before)
     → TakesCsus k (settingsOf s) (recordsOf p at) t before after out out′ n
 csus-taken s k p at before after t c out mid out′ next n long walks e puts w m =
     let x : Slot = slotIn t k in

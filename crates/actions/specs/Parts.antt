@@ -12,7 +12,7 @@ use Rattle.rules.specs.Links.{enters}
 use Rattle.rules.specs.Rows.{clearedIf}
 use Rattle.rules.specs.Slots.{moved}
 use Rattle.memory.specs.Memory.{rowsIn, Memory, memoryOf, requestsPut, keptPut, requestsOf, keptOf}
-use Rattle.writer.specs.Write as writer
+use Rattle.writer.specs.Write.{Wrote}
 use Rattle.slots.specs.declared.state.Slot.{Slot}
 use Rattle.slots.specs.State.{slotOf}
 use Rattle.table.specs.Words.{slotIn}
@@ -49,11 +49,7 @@ pub record MovesAt (k : ℕ) (l : Link) (slots slots′ before after : List ℕ)
   pub moves : Moves k l (slotIn slots k) before after (slotIn slots′ k)
   pub others : (j : ℕ) → (j ≡ k → ⊥) → slotIn slots′ j ≡ slotIn slots j
 
--- ---- what is written
--- p is at the start of a lent slice, and n is its length
-abbrev pub Wrote : List ℕ → List ℕ → List ℕ → ℕ → Type 0
-Wrote p before after n = writer.Wrote p before after n
-
+-- ---- what is left and written
 -- both, of an event before its end
 pub record Acts (k : ℕ) (slot : rules.Slot) (rows : List Row) (p before after out out′ : List ℕ) (r : Acted) : Type 0 where
   pub left : Leaves k slot rows before after (r .slot)

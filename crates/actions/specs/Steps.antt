@@ -32,13 +32,12 @@ use Rattle.rules.specs.Packets.{updatedBy, unlessEmpty}
 use Rattle.rules.specs.Poll as poll
 use Rattle.rules.specs.Poll.{dueSlot, dueSent, pollSlot, pollSent}
 use Rattle.memory.specs.declared.next.Picks.{Picks}
-use Rattle.memory.specs.Memory.{rowsIn, memoryOf, keptPut, requestsOf}
-use Rattle.memory.specs.Memory as memories
+use Rattle.memory.specs.Memory.{rowsIn, memoryOf, keptPut, requestsOf, requestsPut}
 use Rattle.memory.specs.Marks.{Picked}
 use Rattle.wire.specs.declared.read.Head.{Head}
 use Rattle.wire.specs.Views.{recordsOf, messageOf}
 use Rattle.writer.specs.declared.write.Common.{Common}
-use Rattle.writer.specs.Write as writer
+use Rattle.writer.specs.Write.{messageFrom, Wrote}
 use Rattle.slots.specs.declared.state.Settings.{Settings}
 use Rattle.slots.specs.declared.state.Slot.{Slot}
 use Rattle.slots.specs.State.{slotOf}
@@ -47,14 +46,14 @@ use Rattle.actions.specs.declared.parts.Acted.{Acted}
 use Rattle.actions.specs.declared.due.Due.{Due}
 use Rattle.actions.specs.declared.due.Due.the-variants.{Nothing, Hello, FirstCa, KeptCa, Csus, Update}
 use Rattle.actions.specs.declared.due.Plan.{Plan}
-use Rattle.actions.specs.Parts.{slotWith, slotNow, Wrote, Acts, ActsAt}
+use Rattle.actions.specs.Parts.{slotWith, slotNow, Acts, ActsAt}
 
 -- ---- what is written
 abbrev pub commonOf : Settings → List ℕ → Common
 commonOf s peer = record { protocol = s .protocol; group = s .group; sender = s .id; receiver = peer }
 
 abbrev pub ourMessage : Common → Body → Message
-ourMessage c b = writer.messageFrom c (c .receiver) b
+ourMessage c b = messageFrom c (c .receiver) b
 
 -- records that were put from octet 28 up to n are a packet, its head before them; with none nothing is written
 abbrev pub WritesSome : (List CsaRecord → Body) → Common → ℕ → ℕ → List ℕ → List ℕ → ℕ → Type 0
@@ -69,7 +68,7 @@ pub record SendsCa (k : ℕ) (p before after out out′ : List ℕ) (r : ℕ) : 
 
 -- a CSUS is written, and its requests move to the end
 pub record SendsCsus (k : ℕ) (p before after out out′ : List ℕ) (r : ℕ) : Type 0 where
-  pub memory : memoryOf after ≡ memories.requestsPut k (rotated (requestsOf (memoryOf before) k)) (memoryOf before)
+  pub memory : memoryOf after ≡ requestsPut k (rotated (requestsOf (memoryOf before) k)) (memoryOf before)
   pub wrote : Wrote p out out′ r
 
 -- ---- a CA
@@ -148,7 +147,7 @@ pub record Plans (d : poll.Due) (k : ℕ) (x : Slot) (memory : List ℕ) (r : Pl
 pub record WritesDue (d : poll.Due) (k : ℕ) (s : rules.Settings) (x : Slot) (before after out out′ : List ℕ) (r : ℕ) : Type 0 where
   pub memory : (now : ℕ) → memoryOf after
       ≡ keptPut k (dueSlot d s now (rowsIn before) k (slotWith x k before) .kept)
-      (memories.requestsPut k (dueSlot d s now (rowsIn before) k (slotWith x k before) .requests) (memoryOf before))
+      (requestsPut k (dueSlot d s now (rowsIn before) k (slotWith x k before) .requests) (memoryOf before))
   pub wrote : Wrote (octetsOf (dueSent d s (rowsIn before) k (slotWith x k before))) out out′ r
 
 -- the slot after it

@@ -11,7 +11,7 @@ ghost use Rattle.rules.specs.Rows.{rowsOf};
 ghost use Rattle.memory.specs.Layout.{memorySize};
 ghost use Rattle.memory.specs.Memory.{rowsIn, requestsIn};
 ghost use Rattle.memory.specs.Marks.{picksOf};
-ghost use Rattle.actions.specs.Parts.{Wrote};
+ghost use Rattle.writer.specs.Write.{Wrote};
 ghost use Rattle.actions.specs.Steps.{commonOf, ourMessage, WritesSome};
 use memory::next::Picks;
 use protocol::CaFlags;

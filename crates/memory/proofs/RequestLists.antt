@@ -12,7 +12,7 @@ use lib.ListN.{length, take, drop, getD, set, length-set}
 use lib.Seq.{drop-drop, take-suc, take-suc-set, drop-set-lt, getD-drop}
 use Rattle.laws.specs.Choice.{pick}
 use Rattle.laws.specs.Tables.{has, change, without}
-use Rattle.memory.specs.Lists.{placeOf}
+use Rattle.memory.specs.Lists.{indexOf}
 
 -- ---- the first that passes
 module _ {A : Type 0} (p : A → Bool) (d : A) where
@@ -30,55 +30,55 @@ module _ {A : Type 0} (p : A → Bool) (d : A) where
   later : (x : A) (l : List A) (i : ℕ) → Passed (x ∷ l) (suc i) → Passed l i
   later x l i h j g n = h (suc j) (omega arith) (omega arith)
 
-  pub place-hit : (l : List A) (i : ℕ) → i < length l → Passed l i → p (getD l i d) ≡ true → placeOf p l ≡ i
+  pub place-hit : (l : List A) (i : ℕ) → i < length l → Passed l i → p (getD l i d) ≡ true → indexOf p l ≡ i
   place-hit [] i h q e = absurd (omega arith)
   place-hit (x ∷ l) zero h q e = rw e
   place-hit (x ∷ l) (suc i) h q e = rw (q 0 (omega arith) (omega arith)) (ap suc (place-hit l i (omega arith) (later x l i q) e))
 
-  pub place-end : (l : List A) (i : ℕ) → length l ≤ i → Passed l i → placeOf p l ≡ length l
+  pub place-end : (l : List A) (i : ℕ) → length l ≤ i → Passed l i → indexOf p l ≡ length l
   place-end [] i h q = refl
   place-end (x ∷ l) zero h q = absurd (omega arith)
   place-end (x ∷ l) (suc i) h q = rw (q 0 (omega arith) (omega arith)) (ap suc (place-end l i (omega arith) (later x l i q)))
 
   -- none before the place passes
-  before-by : (x : A) (l : List A) (b : Bool) → p x ≡ b → Passed l (placeOf p l) → Passed (x ∷ l) (pick b 0 (suc (placeOf p l)))
+  before-by : (x : A) (l : List A) (b : Bool) → p x ≡ b → Passed l (indexOf p l) → Passed (x ∷ l) (pick b 0 (suc (indexOf p l)))
   before-by x l true e q j g n = absurd (omega arith)
   before-by x l false e q zero g n = e
   before-by x l false e q (suc j) g n = q j (omega arith) (omega arith)
 
-  pub place-passed : (l : List A) → Passed l (placeOf p l)
+  pub place-passed : (l : List A) → Passed l (indexOf p l)
   place-passed [] = λ j g n. absurd (omega arith)
   place-passed (x ∷ l) = before-by x l (p x) refl (place-passed l)
 
-  place-by : (l : List A) (b : Bool) → placeOf p l ≤ length l → pick b 0 (suc (placeOf p l)) ≤ suc (length l)
+  place-by : (l : List A) (b : Bool) → indexOf p l ≤ length l → pick b 0 (suc (indexOf p l)) ≤ suc (length l)
   place-by l true h = omega arith
   place-by l false h = omega arith
 
-  pub place-within : (l : List A) → placeOf p l ≤ length l
+  pub place-within : (l : List A) → indexOf p l ≤ length l
   place-within [] = omega arith
   place-within (x ∷ l) = place-by l (p x) (place-within l)
 
   -- what is known where there is one, and where there is none
   pub record Placed (l : List A) : Type 0 where
-    pub passes : p (getD l (placeOf p l) d) ≡ true
+    pub passes : p (getD l (indexOf p l) d) ≡ true
     pub there : has p l ≡ true
-    pub changes : (f : A → A) → change p f l ≡ set l (placeOf p l) (f (getD l (placeOf p l) d))
+    pub changes : (f : A → A) → change p f l ≡ set l (indexOf p l) (f (getD l (indexOf p l) d))
 
-  placed-by : (x : A) (l : List A) → (placeOf p l < length l → Placed l) → (b : Bool) → p x ≡ b → pick b 0 (suc (placeOf p l)) < suc (length l) → Placed (x ∷ l)
+  placed-by : (x : A) (l : List A) → (indexOf p l < length l → Placed l) → (b : Bool) → p x ≡ b → pick b 0 (suc (indexOf p l)) < suc (length l) → Placed (x ∷ l)
   placed-by x l ih true e h = record { passes = rw e e; there = rw e; changes = λ f. rw e }
   placed-by x l ih false e h =
       let r = ih (omega arith) in
       record { passes = rw e (r .passes); there = rw e (r .there); changes = λ f. rw (e, r .changes f) }
 
-  pub placed : (l : List A) → placeOf p l < length l → Placed l
+  pub placed : (l : List A) → indexOf p l < length l → Placed l
   placed [] h = absurd (omega arith)
   placed (x ∷ l) h = placed-by x l (placed l) (p x) refl h
 
-  nowhere-by : (x : A) (l : List A) → (length l ≤ placeOf p l → has p l ≡ false) → (b : Bool) → suc (length l) ≤ pick b 0 (suc (placeOf p l)) → (b || has p l) ≡ false
+  nowhere-by : (x : A) (l : List A) → (length l ≤ indexOf p l → has p l ≡ false) → (b : Bool) → suc (length l) ≤ pick b 0 (suc (indexOf p l)) → (b || has p l) ≡ false
   nowhere-by x l ih true h = absurd (omega arith)
   nowhere-by x l ih false h = ih (omega arith)
 
-  pub nowhere : (l : List A) → length l ≤ placeOf p l → has p l ≡ false
+  pub nowhere : (l : List A) → length l ≤ indexOf p l → has p l ≡ false
   nowhere [] h = refl
   nowhere (x ∷ l) h = nowhere-by x l (nowhere l) (p x) h
 

@@ -19,7 +19,7 @@ use Rattle.rules.specs.Server.{Entry, Request}
 use Rattle.rules.specs.Requests.{asks}
 use Rattle.memory.specs.Layout.{listPlace}
 use Rattle.memory.specs.Memory.{requestsIn, memoryOf, requestsPut, requestsOf}
-use Rattle.memory.specs.Lists.{roomsIn, noRequest, Listed, placeOf, goes, Removes}
+use Rattle.memory.specs.Lists.{roomsIn, noRequest, Listed, indexOf, goes, Removes}
 use Rattle.memory.proofs.Rooms.{rooms-length, requests-of, listed-none, listed-memory}
 use Rattle.memory.proofs.RequestSteps.{then-sized, then-any, rooms-are, list-get, list-take}
 use Rattle.memory.proofs.RequestLists.{place-passed, place-within, Removed, removed-none, removed-more}
@@ -53,10 +53,10 @@ pub record Removing (k : ℕ) (p : Request → Bool) (i w : ℕ) (s t : List ℕ
 
 -- from the first request for the entry on
 pub removing-none : (k : ℕ) (all : Bool) (e : Entry) (m : CsaNumber) (n i : ℕ) (s : List ℕ) → k < 8 → n ≡ length (requestsIn s k)
-    → i ≡ placeOf (asks e) (requestsIn s k) → Removing k (goes all e m) i i s s
+    → i ≡ indexOf (asks e) (requestsIn s k) → Removing k (goes all e m) i i s s
 removing-none k all e m n i s slot long place =
     let l : List Request = requestsIn s k in
-    let within : placeOf (asks e) l ≤ length l = place-within (asks e) noRequest l in
+    let within : indexOf (asks e) l ≤ length l = place-within (asks e) noRequest l in
     record {
       list = listed-none s k slot;
       rooms = removed-none (goes all e m) noRequest (roomsIn s k) i (λ j g h.

@@ -16,7 +16,7 @@ use Rattle.protocol.specs.declared.CsaNumber.{CsaNumber}
 use Rattle.rules.specs.Server.{requestsMost, Entry, Request}
 use Rattle.rules.specs.Requests.{asks, raised, join, acknowledged, dropped, rotated}
 use Rattle.rules.proofs.Entries.{entry-true}
-use Rattle.memory.specs.Lists.{noRequest, placeOf}
+use Rattle.memory.specs.Lists.{noRequest, indexOf}
 use Rattle.memory.proofs.RequestLists.{nowhere}
 use Rattle.memory.proofs.RequestLaws.{OneEach, acknowledged-one, dropped-one, join-one, join-list, rotated-one, rotated-perm, none-left, within-short, acknowledged-order, dropped-order}
 
@@ -75,19 +75,19 @@ after-most empties l h = omega arith
 
 -- ---- how many stand before the first that passes
 module _ {A : Type 0} (p : A → Bool) where
-  place-front : (l m : List A) → has p l ≡ true → placeOf p (l ++ m) ≡ placeOf p l
+  place-front : (l m : List A) → has p l ≡ true → indexOf p (l ++ m) ≡ indexOf p l
   place-front [] m h = absurd (false≢true h)
   place-front (x ∷ l) m h = by (place-front l m) (p x) h where
-    by : (has p l ≡ true → placeOf p (l ++ m) ≡ placeOf p l) → (b : Bool) → (b || has p l) ≡ true
-        → pick b 0 (suc (placeOf p (l ++ m))) ≡ pick b 0 (suc (placeOf p l))
+    by : (has p l ≡ true → indexOf p (l ++ m) ≡ indexOf p l) → (b : Bool) → (b || has p l) ≡ true
+        → pick b 0 (suc (indexOf p (l ++ m))) ≡ pick b 0 (suc (indexOf p l))
     by ih true g = refl
     by ih false g = ap suc (ih g)
 
-  place-behind : (l m : List A) → has p l ≡ false → placeOf p (l ++ m) ≡ length l + placeOf p m
+  place-behind : (l m : List A) → has p l ≡ false → indexOf p (l ++ m) ≡ length l + indexOf p m
   place-behind [] m h = omega arith
   place-behind (x ∷ l) m h =
       let r = or-false (p x) (has p l) h in
-      let ih : placeOf p (l ++ m) ≡ length l + placeOf p m = place-behind l m (r .1) in
+      let ih : indexOf p (l ++ m) ≡ length l + indexOf p m = place-behind l m (r .1) in
       rw (r .0, ih) (omega arith)
 
   has-behind : (l m : List A) → has p l ≡ false → has p (l ++ m) ≡ has p m
@@ -95,33 +95,33 @@ module _ {A : Type 0} (p : A → Bool) where
   has-behind (x ∷ l) m h = let r = or-false (p x) (has p l) h in rw (r .0) (has-behind l m (r .1))
 
   -- four of the others go to the end
-  place-turned : (l : List A) → has p l ≡ true → has p (take 4 l) ≡ false → placeOf p (drop 4 l ++ take 4 l) + 4 ≡ placeOf p l
+  place-turned : (l : List A) → has p l ≡ true → has p (take 4 l) ≡ false → indexOf p (drop 4 l ++ take 4 l) + 4 ≡ indexOf p l
   place-turned [] h g = absurd (false≢true h)
   place-turned (a ∷ []) h g = absurd (false≢true (sym g ∙ h))
   place-turned (a ∷ b ∷ []) h g = absurd (false≢true (sym g ∙ h))
   place-turned (a ∷ b ∷ c ∷ []) h g = absurd (false≢true (sym g ∙ h))
   place-turned (a ∷ b ∷ c ∷ d ∷ m) h g =
       let four : List A = a ∷ b ∷ c ∷ d ∷ [] in
-      let far : placeOf p (four ++ m) ≡ 4 + placeOf p m = place-behind four m g in
-      let near : placeOf p (m ++ four) ≡ placeOf p m = place-front m four (sym (has-behind four m g) ∙ h) in
+      let far : indexOf p (four ++ m) ≡ 4 + indexOf p m = place-behind four m g in
+      let near : indexOf p (m ++ four) ≡ indexOf p m = place-front m four (sym (has-behind four m g) ∙ h) in
       omega arith
 
 -- ---- a step brings a request that stays no farther from the front, and a rotation that leaves it out brings it four nearer
 module _ (e : Entry) where
-  place-raised : (f : Entry) (n : CsaNumber) (l : List Request) → placeOf (asks e) (change (asks f) (raised n) l) ≡ placeOf (asks e) l
+  place-raised : (f : Entry) (n : CsaNumber) (l : List Request) → indexOf (asks e) (change (asks f) (raised n) l) ≡ indexOf (asks e) l
   place-raised f n [] = refl
   place-raised f n (q ∷ l) =
-      pick-of (λ (z : List Request). placeOf (asks e) z ≡ placeOf (asks e) (q ∷ l)) (asks f q) (raised n q ∷ l) (q ∷ change (asks f) (raised n) l)
+      pick-of (λ (z : List Request). indexOf (asks e) z ≡ indexOf (asks e) (q ∷ l)) (asks f q) (raised n q ∷ l) (q ∷ change (asks f) (raised n) l)
       refl (rw (place-raised f n l))
 
   -- where one of e is left, the first did not go: there is one only
   place-without : (p : Request → Bool) (l : List Request) → OneEach l → has (asks e) (without p l) ≡ true
-      → placeOf (asks e) (without p l) ≤ placeOf (asks e) l
+      → indexOf (asks e) (without p l) ≤ indexOf (asks e) l
   place-without p [] one h = omega arith
   place-without p (q ∷ l) one h = by (place-without p l (one .1)) (p q) (asks e q) refl h where
-    by : (has (asks e) (without p l) ≡ true → placeOf (asks e) (without p l) ≤ placeOf (asks e) l) → (a b : Bool) → asks e q ≡ b
+    by : (has (asks e) (without p l) ≡ true → indexOf (asks e) (without p l) ≤ indexOf (asks e) l) → (a b : Bool) → asks e q ≡ b
         → has (asks e) (pick a (without p l) (q ∷ without p l)) ≡ true
-        → placeOf (asks e) (pick a (without p l) (q ∷ without p l)) ≤ pick b 0 (suc (placeOf (asks e) l))
+        → indexOf (asks e) (pick a (without p l) (q ∷ without p l)) ≤ pick b 0 (suc (indexOf (asks e) l))
     by ih true true g h =
         let none : has (asks e) l ≡ false = ap (λ (f : Entry). has (asks f) l) (sym (entry-true (q .entry) e g)) ∙ one .0 in
         absurd (false≢true (sym (none-left p (asks e) l none) ∙ h))
@@ -130,11 +130,11 @@ module _ (e : Entry) where
     by ih false false g h = let k = ih (rw g at h) in rw g (omega arith)
 
   nearer : (s : ListStep) (l : List Request) → OneEach l → has (asks e) l ≡ true → has (asks e) (after s l) ≡ true
-      → (isRotation s && has (asks e) (take 4 l)) ≡ false → placeOf (asks e) (after s l) + pick (isRotation s) 4 0 ≤ placeOf (asks e) l
+      → (isRotation s && has (asks e) (take 4 l)) ≡ false → indexOf (asks e) (after s l) + pick (isRotation s) 4 0 ≤ indexOf (asks e) l
   nearer rotates l one h g out = let k = place-turned (asks e) l h out in omega arith
   nearer (joins f n missed) l one h g out =
-      let k : placeOf (asks e) (after (joins f n missed) l) ≡ placeOf (asks e) l =
-      join-list (λ (z : List Request). placeOf (asks e) z ≡ placeOf (asks e) l) f n (record { requests = l; missed = missed }) (place-raised f n l)
+      let k : indexOf (asks e) (after (joins f n missed) l) ≡ indexOf (asks e) l =
+      join-list (λ (z : List Request). indexOf (asks e) z ≡ indexOf (asks e) l) f n (record { requests = l; missed = missed }) (place-raised f n l)
       (λ _ _. place-front (asks e) l (record { entry = f; number = n } ∷ []) h) refl in
       omega arith
   nearer (acknowledges f n) l one h g out = let k = place-without _ l one g in omega arith
@@ -150,7 +150,7 @@ module _ (e : Entry) where
   four-each false n = omega arith
 
   left-out : (ss : List ListStep) (l : List Request) → OneEach l → stays e ss l ≡ true → isSent e ss l ≡ false
-      → count isRotation ss * 4 ≤ placeOf (asks e) l
+      → count isRotation ss * 4 ≤ indexOf (asks e) l
   left-out [] l one h f = omega arith
   left-out (s ∷ ss) l one h f =
       let t = and-true (has (asks e) l) (stays e ss (after s l)) h in

@@ -22,7 +22,7 @@ use Rattle.rules.specs.Requests.{asks, raised, join, Wanted, dropped}
 use Rattle.memory.specs.Layout.{requestSize, memorySize, listPlace, requestTagPlace, requestPlace}
 use Rattle.memory.specs.Memory.{entryNamed, tagOf, requestIn, requestsIn, Memory, memoryOf, requestsPut, requestsOf}
 use Rattle.memory.specs.Search.{FirstOctet}
-use Rattle.memory.specs.Lists.{roomsIn, noRequest, Listed, placeOf, goes, Joins}
+use Rattle.memory.specs.Lists.{roomsIn, noRequest, Listed, indexOf, goes, Joins}
 use Rattle.memory.proofs.Rooms.{rooms-length, rooms-get, requests-in, requests-of, listed-none, listed-then, listed-requests}
 use Rattle.memory.proofs.RoomReads.{room-is, asks-other, raised-newer, raised-not}
 use Rattle.memory.proofs.RequestLists.{Passed, passed-more, place-hit, place-end, placed, nowhere}
@@ -82,13 +82,13 @@ module _ (s : List ℕ) (k n i : ℕ) (name : List ℕ) (long : n ≡ length (re
     tested : asks (entryNamed name) (getD (requestsIn s k) i noRequest) ≡ a
     tested = ap (asks (entryNamed name)) (list-get s k i (omega arith)) ∙ sym f
 
-    pub find-hit : a ≡ true → i ≡ placeOf (asks (entryNamed name)) (requestsIn s k)
+    pub find-hit : a ≡ true → i ≡ indexOf (asks (entryNamed name)) (requestsIn s k)
     find-hit g = sym (place-hit (asks (entryNamed name)) noRequest (requestsIn s k) i (omega arith) so (tested ∙ g))
 
     pub find-miss : a ≡ false → Passed (asks (entryNamed name)) noRequest (requestsIn s k) (i + 1)
     find-miss g = passed-more (asks (entryNamed name)) noRequest (requestsIn s k) i so (tested ∙ g)
 
-  pub find-end : Looked → n ≤ i → n ≡ placeOf (asks (entryNamed name)) (requestsIn s k)
+  pub find-end : Looked → n ≤ i → n ≡ indexOf (asks (entryNamed name)) (requestsIn s k)
   find-end so h = long ∙ sym (place-end (asks (entryNamed name)) noRequest (requestsIn s k) i (omega arith) so)
 
 -- ---- a number raised
@@ -147,8 +147,8 @@ module _ (e : Entry) (n : CsaNumber) (l : List Request) (missed : ℕ) where
   join-misses h g = rw (h, le-ltb (length l) 64 g)
 
 module _ (s : List ℕ) (k : ℕ) (slot : k < 8) (e : Entry) (n : CsaNumber) (missed m i : ℕ) (long : m ≡ length (requestsIn s k))
-    (found : i ≡ placeOf (asks e) (requestsIn s k)) where
-  there : i < m → placeOf (asks e) (requestsIn s k) < length (requestsIn s k)
+    (found : i ≡ indexOf (asks e) (requestsIn s k)) where
+  there : i < m → indexOf (asks e) (requestsIn s k) < length (requestsIn s k)
   there h = omega arith
 
   pub join-asks : i < m → asks e (getD (roomsIn s k) i noRequest) ≡ true

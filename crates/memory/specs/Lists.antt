@@ -42,9 +42,9 @@ pub record Listed (k n : ℕ) (rooms : List Request) (before after : List ℕ) :
   pub others : memoryOf after ≡ requestsPut k (requestsIn after k) (memoryOf before)
 
 -- where the first cell that passes the test stands; the length where none does
-abbrev pub placeOf : {A : Type 0} → (A → Bool) → List A → ℕ
-placeOf p [] = 0
-placeOf p (x ∷ xs) = pick (p x) 0 (suc (placeOf p xs))
+abbrev pub indexOf : {A : Type 0} → (A → Bool) → List A → ℕ
+indexOf p [] = 0
+indexOf p (x ∷ xs) = pick (p x) 0 (suc (indexOf p xs))
 
 -- the request goes: it is for the entry, and all go or its number is no greater
 abbrev pub goes : Bool → Entry → CsaNumber → Request → Bool

@@ -13,7 +13,7 @@ ghost use Rattle.memory.specs.Layout.{memorySize, listPlace};
 ghost use Rattle.memory.specs.Memory.{entryNamed, tagOf, requestIn, requestsIn, memoryOf, requestsPut, requestsOf};
 ghost use Rattle.memory.specs.Lists as lists;
 ghost use Rattle.memory.specs.Search.{FitsName};
-ghost use Rattle.memory.specs.Lists.{roomsIn, noRequest, Listed, placeOf, Joins};
+ghost use Rattle.memory.specs.Lists.{roomsIn, noRequest, Listed, indexOf, Joins};
 use crate::layout::LIST_SIZE;
 use crate::layout::NUMBER_PLACE;
 use crate::layout::REQUEST_SIZE;
@@ -81,7 +81,7 @@ pub fn name_at(memory: &[u8], k: usize, i: usize) -> &[u8]
 fn find(memory: &[u8], k: usize, n: usize, name: &[u8], t: u8) -> usize
     requires { ⌜ (k < 8) × ((n ≡ length (requestsIn (now memory) k)) × (length (now memory) ≡ memorySize)) ⌝ }
     requires { ⌜ (4 < length (now name)) × ((t ≡ tagOf (now name)) × (n ≤ 64)) ⌝ }
-    ensures { λ r. ⌜ r ≡ placeOf (rules.asks (entryNamed (now (name .entry)))) (requestsIn (now (memory .entry)) k) ⌝ }
+    ensures { λ r. ⌜ r ≡ indexOf (rules.asks (entryNamed (now (name .entry)))) (requestsIn (now (memory .entry)) k) ⌝ }
 {
     let mut i = tags::first_octet(memory, room::tag_place(k, 0), t) as usize;
     while i < n {

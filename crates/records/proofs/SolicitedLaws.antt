@@ -19,7 +19,7 @@ use Rattle.memory.specs.Search.{firstFrom}
 use Rattle.memory.proofs.EntryLaws.{found-entry, none-entry}
 use Rattle.wire.specs.declared.record.Cursor.{Cursor}
 use Rattle.wire.specs.Views.{recordsOf}
-use Rattle.records.specs.Walks.{Walks, Named, recordAt, answerBy}
+use Rattle.records.specs.Walks.{Walks, Named, csaAt, answerBy}
 use Rattle.records.specs.Places.{Puts}
 use Rattle.records.proofs.WalkLaws.{cursor, Walking, walk-start, walk-end, walk-step, walk-on}
 use Rattle.records.proofs.PutLaws.{puts-none, puts-then, puts-as}
@@ -69,10 +69,10 @@ module _ (s p : List ℕ) (c : Cursor) (out₀ : List ℕ) where
       pub soliciting-room : to + 64 ≤ length out
       soliciting-room = let n = x .puts .near in let f = x .few in let l = x .long in omega arith
 
-      pub soliciting-more : (out′ : List ℕ) (n size : ℕ) → length out′ ≡ length out → Puts 64 (solicited (rowsIn s) (recordAt p at) ∷ []) to out out′ n
+      pub soliciting-more : (out′ : List ℕ) (n size : ℕ) → length out′ ≡ length out → Puts 64 (solicited (rowsIn s) (csaAt p at) ∷ []) to out out′ n
           → (size ≡ field2 p (at + 2)) × (size ≤ 65535) → Soliciting out′ (at + size) (left - 1) n
       soliciting-more out′ n size kept one e =
-          let v : CsaRecord = solicited (rowsIn s) (recordAt p at) in
+          let v : CsaRecord = solicited (rowsIn s) (csaAt p at) in
           let f = x .few in
           let near = soliciting-room in
           let l = x .long in

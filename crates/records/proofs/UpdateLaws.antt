@@ -25,7 +25,7 @@ use Rattle.wire.specs.Views.{recordsOf}
 use Rattle.records.specs.declared.put.Placed.{Placed}
 use Rattle.records.specs.declared.standing.UpdateRule.{UpdateRule}
 use Rattle.records.specs.declared.standing.UpdateRule.the-variants.{Null, PurgeAbsent, Full, Stored, Equal, Older}
-use Rattle.records.specs.Walks.{Walks, Named, recordAt, updateRuleOf, updatedNow, UpdatesOne, Updates, UpdatesAll}
+use Rattle.records.specs.Walks.{Walks, Named, csaAt, updateRuleOf, updatedNow, UpdatesOne, Updates, UpdatesAll}
 use Rattle.records.specs.Places.{Adds, Places, replyOf, Puts}
 use Rattle.records.proofs.MemoryLaws.{requests-same, both-rows, both-requests, both-twice}
 use Rattle.records.proofs.WalkLaws.{cursor, Walking, walk-start, walk-end, walk-step, walk-on, named-of}
@@ -180,15 +180,15 @@ module _ (live : ℕ → Bool) (k : ℕ) (p : List ℕ) (c : Cursor) (before out
           (omega arith, omega arith)
 
       module _ (below : k < 8) (t out′ : List ℕ) (x : Placed) (kept : (length t ≡ length s) × (length out′ ≡ length out))
-          (one : Updates live k (recordAt p at) s t out out′ to x) where
+          (one : Updates live k (csaAt p at) s t out out′ to x) where
         v : CsaRecord
-        v = recordAt p at
+        v = csaAt p at
 
         rule : rules.UpdateRule
-        rule = updateRule (recordAt p at) (rowsIn s)
+        rule = updateRule (csaAt p at) (rowsIn s)
 
         after : Updated
-        after = byRule (updateRule (recordAt p at) (rowsIn s)) live k (recordAt p at) (updatedNow k (i .done) s)
+        after = byRule (updateRule (csaAt p at) (rowsIn s)) live k (csaAt p at) (updatedNow k (i .done) s)
 
         now-updated : updatedNow k (after .replies) t ≡ after
         unfolding after

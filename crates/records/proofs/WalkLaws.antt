@@ -22,7 +22,7 @@ use Rattle.memory.proofs.NameLaws.{named-entry}
 use Rattle.wire.specs.declared.record.Cursor.{Cursor}
 use Rattle.wire.specs.Views.{recordsOf}
 use Rattle.wire.proofs.Records.{next-record, no-records}
-use Rattle.records.specs.Walks.{Fits, Walks, recordAt, FitsAt, Named}
+use Rattle.records.specs.Walks.{Fits, Walks, csaAt, FitsAt, Named}
 use Rattle.records.specs.Places.{entryRecord}
 
 abbrev pub cursor : ℕ → ℕ → Cursor
@@ -53,7 +53,7 @@ module _ (p : List ℕ) (at left : ℕ) (w : Walking p at left) (some : 0 < left
   walk-fits = (w .0, subst (All Fits) (next-record p left at some refl) (w .1 .fits) .0)
 
   module _ (size : ℕ) (e : (size ≡ field2 p (at + 2)) × (size ≤ 65535)) where
-    pub walk-step : recordsOf p (cursor at left) ≡ recordAt p at ∷ recordsOf p (cursor (at + size) (left - 1))
+    pub walk-step : recordsOf p (cursor at left) ≡ csaAt p at ∷ recordsOf p (cursor (at + size) (left - 1))
     walk-step = next-record p left at some (e .0)
 
     pub walk-on : Walking p (at + size) (left - 1)

@@ -36,12 +36,12 @@ pub record Walks (p : List ℕ) (c : Cursor) : Type 0 where
 
 -- ---- one record
 -- the record at r
-abbrev pub recordAt : List ℕ → ℕ → CsaRecord
-recordAt p r = reading.recordAt idLength p r
+abbrev pub csaAt : List ℕ → ℕ → CsaRecord
+csaAt p r = reading.recordAt idLength p r
 
 -- a record at r, in reach, that fits a row
 abbrev pub FitsAt : List ℕ → ℕ → Type 0
-FitsAt p r = (r ≤ 1048576) × Fits (recordAt p r)
+FitsAt p r = (r ≤ 1048576) × Fits (csaAt p r)
 
 -- name and number of a record that fits a row
 pub record Named (v : CsaRecord) (name : List ℕ) (number : CsaNumber) : Type 0 where

@@ -10,7 +10,7 @@ ghost use Rattle.memory.specs.Layout.{memorySize};
 ghost use Rattle.memory.specs.Memory.{memoryOf};
 ghost use Rattle.memory.specs.Entries.{rowsAs};
 ghost use Rattle.wire.specs.Views.{recordsOf};
-ghost use Rattle.records.specs.Walks.{Walks, FitsAt, recordAt};
+ghost use Rattle.records.specs.Walks.{Walks, FitsAt, csaAt};
 use memory::entries;
 use wire::record;
 use wire::record::Cursor;
@@ -18,8 +18,8 @@ use wire::record::Cursor;
 // The record at r.
 fn reply_one(memory: &mut [u8], k: usize, p: &[u8], r: usize)
     requires { ⌜ (length (now memory) ≡ memorySize) × ((k < 8) × FitsAt (now p) r) ⌝ }
-    ensures { λ _. ⌜ memoryOf (now (memory .exit)) ≡ rowsAs (change (holds (entryOf (recordAt (now (p .entry)) r)))
-        (replied k (recordAt (now (p .entry)) r .number))) (now (memory .entry)) ⌝ }
+    ensures { λ _. ⌜ memoryOf (now (memory .exit)) ≡ rowsAs (change (holds (entryOf (csaAt (now (p .entry)) r)))
+        (replied k (csaAt (now (p .entry)) r .number))) (now (memory .entry)) ⌝ }
 {
     entries::reply_record(memory, k, record::name(p, r), record::number(p, r))
 }

@@ -10,7 +10,7 @@ ghost use Rattle.memory.specs.Memory.{rowsIn};
 ghost use Rattle.memory.specs.Search.{FitsName};
 ghost use Rattle.wire.specs.Views.{recordsOf};
 ghost use Rattle.protocol.specs.Messages.{CsaRecord};
-ghost use Rattle.records.specs.Walks.{Walks, FitsAt, Named, recordAt, answerBy};
+ghost use Rattle.records.specs.Walks.{Walks, FitsAt, Named, csaAt, answerBy};
 ghost use Rattle.records.specs.Places.{Puts};
 use crate::held;
 use memory::rows;
@@ -52,7 +52,7 @@ fn solicit_row(
 // The answer to the record at r.
 fn solicit_one(memory: &[u8], p: &[u8], r: usize, out: &mut [u8], at: usize) -> usize
     requires { ⌜ (length (now memory) ≡ memorySize) × (FitsAt (now p) r × (at + 64 ≤ length (now out))) ⌝ }
-    ensures { λ n. ⌜ Puts 64 (rules.solicited (rowsIn (now (memory .entry))) (recordAt (now (p .entry)) r) ∷ []) at (now (out .entry))
+    ensures { λ n. ⌜ Puts 64 (rules.solicited (rowsIn (now (memory .entry))) (csaAt (now (p .entry)) r) ∷ []) at (now (out .entry))
         (now (out .exit)) n ⌝ }
 {
     let name = record::name(p, r);

@@ -4,14 +4,14 @@ ghost use Prim.Native.Nat.{_<_};
 ghost use lib.ListN.{length};
 ghost use Rattle.memory.specs.Layout.{memorySize};
 ghost use Rattle.wire.specs.Views.{recordsOf};
-ghost use Rattle.records.specs.Walks.{Walks, FitsAt, recordAt, TakesOne, TakesAll};
+ghost use Rattle.records.specs.Walks.{Walks, FitsAt, csaAt, TakesOne, TakesAll};
 use wire::record;
 use wire::record::Cursor;
 
 // The record at r.
 fn take_one(memory: &mut [u8], k: usize, p: &[u8], r: usize, missed: u16) -> u16
     requires { ⌜ (length (now memory) ≡ memorySize) × ((k < 8) × FitsAt (now p) r) ⌝ }
-    ensures { λ n. ⌜ TakesOne k (recordAt (now (p .entry)) r) missed (now (memory .entry)) (now (memory .exit)) n ⌝ }
+    ensures { λ n. ⌜ TakesOne k (csaAt (now (p .entry)) r) missed (now (memory .entry)) (now (memory .exit)) n ⌝ }
 {
     memory::summaries::take_in(memory, k, record::name(p, r), record::number(p, r), missed)
 }

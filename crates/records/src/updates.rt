@@ -12,7 +12,7 @@ ghost use Rattle.memory.specs.Memory.{isMarked, rowsIn, memoryOf, requestsPut, 
 ghost use Rattle.memory.specs.Search.{FitsName, firstFrom};
 ghost use Rattle.memory.specs.Entries.{rowsAs};
 ghost use Rattle.wire.specs.Views.{recordsOf};
-ghost use Rattle.records.specs.Walks.{updateRuleOf, Walks, FitsAt, Named, recordAt, updatedNow, UpdatesOne, Updates, UpdatesAll};
+ghost use Rattle.records.specs.Walks.{updateRuleOf, Walks, FitsAt, Named, csaAt, updatedNow, UpdatesOne, Updates, UpdatesAll};
 ghost use Rattle.records.specs.Places.{Adds, Places, replyOf};
 use crate::put::Placed;
 use crate::put::put_summary;
@@ -39,8 +39,8 @@ fn rows_by(
     number: CsaNumber,
 )
     requires { ⌜ ((length (now memory) ≡ memorySize) × ((k < 8) × (r ≤ 1048576)))
-        × (Named (recordAt (now p) r) (now name) number × (found ≡ firstFrom (holds (entryOf (recordAt (now p) r))) 0 (rowsIn (now memory)))) ⌝ }
-    ensures { λ _. ⌜ memoryOf (now (memory .exit)) ≡ rowsAs (rules.rowsBy (updateRuleOf rule) (isMarked live) k (recordAt (now (p .entry)) r))
+        × (Named (csaAt (now p) r) (now name) number × (found ≡ firstFrom (holds (entryOf (csaAt (now p) r))) 0 (rowsIn (now memory)))) ⌝ }
+    ensures { λ _. ⌜ memoryOf (now (memory .exit)) ≡ rowsAs (rules.rowsBy (updateRuleOf rule) (isMarked live) k (csaAt (now (p .entry)) r))
         (now (memory .entry)) ⌝ }
 {
     match rule {
@@ -88,8 +88,8 @@ fn apply_record(
     name: &[u8],
     number: CsaNumber,
 ) -> UpdateRule
-    requires { ⌜ ((length (now memory) ≡ memorySize) × ((k < 8) × (r ≤ 1048576))) × Named (recordAt (now p) r) (now name) number ⌝ }
-    ensures { λ u. ⌜ UpdatesOne (isMarked live) k (recordAt (now (p .entry)) r) (now (memory .entry)) (now (memory .exit)) (updateRuleOf u) ⌝ }
+    requires { ⌜ ((length (now memory) ≡ memorySize) × ((k < 8) × (r ≤ 1048576))) × Named (csaAt (now p) r) (now name) number ⌝ }
+    ensures { λ u. ⌜ UpdatesOne (isMarked live) k (csaAt (now (p .entry)) r) (now (memory .entry)) (now (memory .exit)) (updateRuleOf u) ⌝ }
 {
     let found = rows::find(memory, name);
     let null = record::null(p, r);
@@ -139,7 +139,7 @@ fn update_one(
     to: Placed,
 ) -> Placed
     requires { ⌜ ((length (now memory) ≡ memorySize) × ((k < 8) × FitsAt (now p) r)) × ((to .next + 64 ≤ length (now out)) × (to .count ≤ 4)) ⌝ }
-    ensures { λ x. ⌜ Updates (isMarked live) k (recordAt (now (p .entry)) r) (now (memory .entry)) (now (memory .exit)) (now (out .entry))
+    ensures { λ x. ⌜ Updates (isMarked live) k (csaAt (now (p .entry)) r) (now (memory .entry)) (now (memory .exit)) (now (out .entry))
         (now (out .exit)) to x ⌝ }
 {
     let name = record::name(p, r);

@@ -26,7 +26,7 @@ use Rattle.slots.specs.declared.answers.Outcome.{Outcome}
 use Rattle.slots.specs.declared.answers.Outcome.the-variants.{Taken, Refused}
 use Rattle.slots.specs.Codes.{codeNumber}
 use Rattle.slots.proofs.Laws.{refused-code}
-use Rattle.actions.specs.Parts.{Wrote}
+use Rattle.writer.specs.Write.{Wrote}
 use Rattle.server.specs.declared.answers.Answer.{Answer}
 use Rattle.server.specs.State.{serverOf, Steps, StepsOut}
 

@@ -36,7 +36,8 @@ use Rattle.slots.specs.Codes.{codeNumber}
 use Rattle.slots.specs.State.{settingsOf}
 use Rattle.slots.proofs.Laws.{refused-code}
 use Rattle.table.specs.Words.{slotIn}
-use Rattle.actions.specs.Parts.{slotNow, MovesAt, Wrote}
+use Rattle.writer.specs.Write.{Wrote}
+use Rattle.actions.specs.Parts.{slotNow, MovesAt}
 use Rattle.actions.proofs.PartLaws.{wrote-none}
 use Rattle.server.specs.declared.answers.Answer.{Answer}
 use Rattle.server.specs.State.{slotsOf, serverOf, Closes, StepsOut}

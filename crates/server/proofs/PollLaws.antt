@@ -20,7 +20,7 @@ use Rattle.slots.specs.declared.answers.Outcome.the-variants.{Taken, Refused}
 use Rattle.slots.specs.Codes.{codeNumber}
 use Rattle.slots.specs.State.{settingsOf}
 use Rattle.table.specs.Words.{slotIn}
-use Rattle.actions.specs.Parts.{Wrote}
+use Rattle.writer.specs.Write.{Wrote}
 use Rattle.actions.specs.Steps.{PollsAt}
 use Rattle.server.specs.declared.answers.Answer.{Answer}
 use Rattle.server.specs.State.{serverOf, Closes, StepsOut}

@@ -39,13 +39,13 @@ use Rattle.slots.specs.declared.state.Slot.{Slot}
 use Rattle.table.specs.Words.{slotIn}
 use Rattle.actions.specs.Parts.{slotWith, slotNow}
 use Rattle.actions.specs.Steps.{caPacketAt}
-use Rattle.server.specs.Events.{Reaches, isCa}
+use Rattle.server.specs.Events.{Reaches, isCaKind}
 
 -- ---- the body, by the kind
 pub body-is : (p : List ℕ) (h : Head) {k : Kind} → h .kind ≡ k → messageOf p h .body ≡ bodyAt idLength k p (h .records .left) (h .records .at)
 body-is p h e = ap (λ (k : Kind). bodyAt idLength k p (h .records .left) (h .records .at)) e
 
-pub is-ca : (k : Kind) → isCa k ≡ true → k ≡ Ca
+pub is-ca : (k : Kind) → isCaKind k ≡ true → k ≡ Ca
 is-ca Ca h = refl
 is-ca CsuRequest h = absurd (false≢true h)
 is-ca CsuReply h = absurd (false≢true h)
@@ -53,7 +53,7 @@ is-ca Csus h = absurd (false≢true h)
 is-ca Hello h = absurd (false≢true h)
 
 -- a CA is not usable where its rule refuses it
-pub ca-unusable : (p : List ℕ) (h : Head) (s : rules.Settings) (t m : List ℕ) (k : ℕ) (x : Slot) (b : Bool) (u : CaRule) → isCa (h .kind) ≡ true → x ≡ slotIn t k
+pub ca-unusable : (p : List ℕ) (h : Head) (s : rules.Settings) (t m : List ℕ) (k : ℕ) (x : Slot) (b : Bool) (u : CaRule) → isCaKind (h .kind) ≡ true → x ≡ slotIn t k
     → u ≡ ruleFor (s .id) (caPacketAt p h) (slotWith x k m) → b ≡ isRefused u → b ≡ unusable s (messageOf p h) (slotNow t k m) (messageOf p h .body)
 ca-unusable p h s t m k x b u e q f g =
     g ∙ ap isRefused (f ∙ ap (λ (z : Slot). ruleFor (s .id) (caPacketAt p h) (slotWith z k m)) q)

@@ -30,7 +30,8 @@ use Rattle.slots.specs.declared.answers.Outcome.the-variants.{Taken}
 use Rattle.slots.specs.Codes.{codeNumber}
 use Rattle.slots.specs.State.{settingsOf}
 use Rattle.table.specs.Words.{slotIn}
-use Rattle.actions.specs.Parts.{slotNow, Leaves, Wrote, ActsAt}
+use Rattle.writer.specs.Write.{Wrote}
+use Rattle.actions.specs.Parts.{slotNow, Leaves, ActsAt}
 use Rattle.server.specs.declared.answers.Answer.{Answer}
 use Rattle.server.specs.declared.own.Own.{Own}
 use Rattle.server.specs.State.{slotsOf, serverOf}
@@ -46,12 +47,12 @@ pub record Reaches (p : List ℕ) (h : Head) : Type 0 where
   pub reach : h .records .at + h .records .left * 65535 ≤ 1048576
   pub walks : isHello (messageOf p h .body) ≡ false → Walks p (h .records)
 
-abbrev pub isCa : Kind → Bool
-isCa Ca = true
-isCa CsuRequest = false
-isCa CsuReply = false
-isCa Csus = false
-isCa Hello = false
+abbrev pub isCaKind : Kind → Bool
+isCaKind Ca = true
+isCaKind CsuRequest = false
+isCaKind CsuReply = false
+isCaKind Csus = false
+isCaKind Hello = false
 
 -- a message is taken in slot k
 abbrev pub ActsOn : Message → ℕ → ℕ → rules.Settings → List ℕ → List ℕ → List ℕ → List ℕ → List ℕ → List ℕ → ℕ → Type 0

@@ -11,7 +11,7 @@ ghost use Rattle.wire.specs.Views.{messageOf};
 ghost use Rattle.slots.specs.Codes.{codeNumber};
 ghost use mathlib.Core.Bool.{true, false};
 ghost use Rattle.slots.specs.State.{settingsOf, ruleOf};
-ghost use Rattle.server.specs.Events.{isCa};
+ghost use Rattle.server.specs.Events.{isCaKind};
 use protocol::Alignment;
 use protocol::Kind;
 use slots::alignment::CaRule;
@@ -72,7 +72,7 @@ pub fn is_refuse(rule: CaRule) -> bool
 
 // Whether a packet that is no CA is not usable in this state.
 pub fn unusable(h: Head, a: Alignment) -> bool
-    ensures { λ r. ⌜ ((s : server.Settings) (p : List ℕ) (x : server.Slot) → isCa (h .kind) ≡ false → x .link .alignment ≡ a
+    ensures { λ r. ⌜ ((s : server.Settings) (p : List ℕ) (x : server.Slot) → isCaKind (h .kind) ≡ false → x .link .alignment ≡ a
         → r ≡ rules.unusable s (messageOf p h) x (messageOf p h .body)) ⌝ }
 {
     let k = h.kind;

@@ -17,7 +17,7 @@ ghost use Rattle.slots.specs.State.{settingsOf, ruleOf};
 ghost use Rattle.actions.specs.Parts.{slotWith};
 ghost use Rattle.actions.specs.Steps.{caPacketAt};
 ghost use Rattle.server.specs.State.{StepsOut};
-ghost use Rattle.server.specs.Events.{Reaches, isCa, ActsOn, DoesRead};
+ghost use Rattle.server.specs.Events.{Reaches, isCaKind, ActsOn, DoesRead};
 use crate::answers;
 use crate::answers::Answer;
 use crate::codes;
@@ -65,7 +65,7 @@ fn take_ca(
     out: &mut [u8],
 ) -> usize
     requires { ⌜ (((length (now slots) ≡ tableSize) × (length (now memory) ≡ memorySize)) × ((k < 8) × (284 ≤ length (now out))))
-        × ((Walks (now p) (h .records) × (isCa (h .kind) ≡ true)) × ((x ≡ slotIn (now slots) k)
+        × ((Walks (now p) (h .records) × (isCaKind (h .kind) ≡ true)) × ((x ≡ slotIn (now slots) k)
         × (ruleOf rule ≡ ruleFor (s .id) (caPacketAt (now p) h) (slotWith x k (now memory))))) ⌝ }
     ensures { λ r. ⌜ ActsOn (messageOf (now (p .entry)) h) k time (settingsOf s) (now (slots .entry)) (now (slots .exit)) (now (memory .entry))
         (now (memory .exit)) (now (out .entry)) (now (out .exit)) r ⌝ }
@@ -88,7 +88,7 @@ fn act(
     out: &mut [u8],
 ) -> usize
     requires { ⌜ (((length (now slots) ≡ tableSize) × (length (now memory) ≡ memorySize)) × ((k < 8) × (284 ≤ length (now out))))
-        × (Reaches (now p) h × (isCa (h .kind) ≡ false)) ⌝ }
+        × (Reaches (now p) h × (isCaKind (h .kind) ≡ false)) ⌝ }
     ensures { λ r. ⌜ ActsOn (messageOf (now (p .entry)) h) k time (settingsOf s) (now (slots .entry)) (now (slots .exit)) (now (memory .entry))
         (now (memory .exit)) (now (out .entry)) (now (out .exit)) r ⌝ }
 {
@@ -125,7 +125,7 @@ fn ca_message(
     out: &mut [u8],
 ) -> Answer
     requires { ⌜ ((length (now slots) ≡ tableSize) × (length (now memory) ≡ memorySize)) × (((k < 8) × (284 ≤ length (now out)))
-        × (Reaches (now p) h × (isCa (h .kind) ≡ true))) ⌝ }
+        × (Reaches (now p) h × (isCaKind (h .kind) ≡ true))) ⌝ }
     ensures { λ r. ⌜ DoesRead (reading.message (messageOf (now (p .entry)) h)) (now (p .entry)) k time s (now (slots .entry)) (now (slots .exit))
         (now (memory .entry)) (now (memory .exit)) (now (out .entry)) (now (out .exit)) r ⌝ }
 {
@@ -156,7 +156,7 @@ fn other_message(
     out: &mut [u8],
 ) -> Answer
     requires { ⌜ ((length (now slots) ≡ tableSize) × (length (now memory) ≡ memorySize)) × (((k < 8) × (284 ≤ length (now out)))
-        × (Reaches (now p) h × (isCa (h .kind) ≡ false))) ⌝ }
+        × (Reaches (now p) h × (isCaKind (h .kind) ≡ false))) ⌝ }
     ensures { λ r. ⌜ DoesRead (reading.message (messageOf (now (p .entry)) h)) (now (p .entry)) k time s (now (slots .entry)) (now (slots .exit))
         (now (memory .entry)) (now (memory .exit)) (now (out .entry)) (now (out .exit)) r ⌝ }
 {
@@ -173,7 +173,7 @@ fn other_message(
 }
 
 fn is_ca(h: Head) -> bool
-    ensures { λ r. ⌜ r ≡ isCa (h .kind) ⌝ }
+    ensures { λ r. ⌜ r ≡ isCaKind (h .kind) ⌝ }
 {
     let k = h.kind;
     match k {

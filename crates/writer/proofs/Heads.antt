@@ -24,7 +24,7 @@ use Rattle.protocol.specs.Layouts.{bit, zeros, flagsField, flagsOf, countOf, re
 use Rattle.protocol.specs.Layouts.{beforeCommon, commonHead, elements, mandatory, fixedPart, layout, packetOf}
 use Rattle.writer.specs.declared.write.Common.{Common}
 use Rattle.writer.specs.Write.{namedRecord, messageFrom, helloMessage, Wrote, FinishesWith, helloFields, receiverLength}
-use Rattle.writer.specs.Write.{commonFields, commonOf, recordFields, summed, sealed, Behind, Heads}
+use Rattle.writer.specs.Write.{commonFields, commonPart, recordFields, summed, sealed, Behind, Heads}
 
 -- ---- the common part by its octets
 ids : (s r : List ℕ) → length s ≡ 4 → length r ≡ 4
@@ -49,15 +49,15 @@ module _ (c : Common) (widths : (length (c .sender) ≡ 4) × (length (c .receiv
 
   -- with the receiver
   pub common-whole : (flags count : ℕ) {m : List ℕ} → m ≡ commonFields (c .protocol) (c .group) flags 4 count ++ (c .sender ++ c .receiver)
-      → m ≡ commonOf c flags 4 count
-  unfolding commonOf
+      → m ≡ commonPart c flags 4 count
+  unfolding commonPart
   common-whole flags count e =
       e ∙ ap (λ (z : List ℕ). commonFields (c .protocol) (c .group) flags 4 count ++ (c .sender ++ z)) (sym (take-all 4 (c .receiver) (le-of-eq (widths .1))))
 
   -- with the receiver, or without
   pub common-part : (named : Bool) {len : ℕ} {m : List ℕ} → len ≡ receiverLength named
-      → m ≡ commonFields (c .protocol) (c .group) 0 len 0 ++ (c .sender ++ c .receiver) → take (16 + len) m ≡ commonOf c 0 len 0
-  unfolding commonOf
+      → m ≡ commonFields (c .protocol) (c .group) 0 len 0 ++ (c .sender ++ c .receiver) → take (16 + len) m ≡ commonPart c 0 len 0
+  unfolding commonPart
   common-part named {len} {m} l e =
       ap (λ (z : List ℕ). take (16 + len) z) e
       ∙ subst (λ (x : ℕ). take (16 + x) (F x ++ (c .sender ++ c .receiver)) ≡ F x ++ (c .sender ++ take x (c .receiver))) (sym l) (by-name named) where
@@ -121,14 +121,14 @@ laid m l =
 
 module _ (c : Common) (widths : (length (c .sender) ≡ 4) × (length (c .receiver) ≡ 4)) where
   packet-of : (receiver : List ℕ) (len : ℕ) (b : Body) → receiver ≡ take len (c .receiver) → length receiver ≡ len
-      → packetOf (messageFrom c receiver b) ≡ sealed (kindOfBody b) ((beforeCommon zeros b ++ commonOf c (flagsOf b) len (countOf b)) ++ elements zeros b)
-  unfolding packetOf layout sealed commonOf
+      → packetOf (messageFrom c receiver b) ≡ sealed (kindOfBody b) ((beforeCommon zeros b ++ commonPart c (flagsOf b) len (countOf b)) ++ elements zeros b)
+  unfolding packetOf layout sealed commonPart
   packet-of receiver len b r e =
       ap (sealed (kindOfBody b)) (laid (messageFrom c receiver b) (widths .0)
       ∙ (λ i. (beforeCommon zeros b ++ (commonFields (c .protocol) (c .group) (flagsOf b) (e i) (countOf b) ++ (c .sender ++ r i))) ++ elements zeros b))
 
   named-packet : (b : Body) → packetOf (messageFrom c (c .receiver) b)
-      ≡ sealed (kindOfBody b) ((beforeCommon zeros b ++ commonOf c (flagsOf b) 4 (countOf b)) ++ elements zeros b)
+      ≡ sealed (kindOfBody b) ((beforeCommon zeros b ++ commonPart c (flagsOf b) 4 (countOf b)) ++ elements zeros b)
   named-packet b = packet-of (c .receiver) 4 b (sym (take-all 4 (c .receiver) (le-of-eq (widths .1)))) (widths .1)
 
   module _ {count n : ℕ} {before after : List ℕ} where
@@ -138,45 +138,45 @@ module _ (c : Common) (widths : (length (c .sender) ≡ 4) × (length (c .receiv
     finishes body k o at e f = λ rs out l room p.
         subst (λ (z : List ℕ). Wrote z out after n) (sym (e rs l)) (f (recordsOctets [] rs) out room p)
 
-    pub finishes-request : Behind CsuRequest (commonOf c 0 4 count) 28 n before after → FinishesWith csuRequest c 28 count n before after
+    pub finishes-request : Behind CsuRequest (commonPart c 0 4 count) 28 n before after → FinishesWith csuRequest c 28 count n before after
     finishes-request =
-        finishes csuRequest CsuRequest (commonOf c 0 4 count) 28
-        (λ rs e. named-packet (csuRequest rs) ∙ ap (λ (x : ℕ). sealed CsuRequest (commonOf c 0 4 x ++ recordsOctets [] rs)) (sym e))
+        finishes csuRequest CsuRequest (commonPart c 0 4 count) 28
+        (λ rs e. named-packet (csuRequest rs) ∙ ap (λ (x : ℕ). sealed CsuRequest (commonPart c 0 4 x ++ recordsOctets [] rs)) (sym e))
 
-    pub finishes-reply : Behind CsuReply (commonOf c 0 4 count) 28 n before after → FinishesWith csuReply c 28 count n before after
+    pub finishes-reply : Behind CsuReply (commonPart c 0 4 count) 28 n before after → FinishesWith csuReply c 28 count n before after
     finishes-reply =
-        finishes csuReply CsuReply (commonOf c 0 4 count) 28
-        (λ rs e. named-packet (csuReply rs) ∙ ap (λ (x : ℕ). sealed CsuReply (commonOf c 0 4 x ++ recordsOctets [] rs)) (sym e))
+        finishes csuReply CsuReply (commonPart c 0 4 count) 28
+        (λ rs e. named-packet (csuReply rs) ∙ ap (λ (x : ℕ). sealed CsuReply (commonPart c 0 4 x ++ recordsOctets [] rs)) (sym e))
 
-    pub finishes-csus : Behind Csus (commonOf c 0 4 count) 28 n before after → FinishesWith csus c 28 count n before after
+    pub finishes-csus : Behind Csus (commonPart c 0 4 count) 28 n before after → FinishesWith csus c 28 count n before after
     finishes-csus =
-        finishes csus Csus (commonOf c 0 4 count) 28
-        (λ rs e. named-packet (csus rs) ∙ ap (λ (x : ℕ). sealed Csus (commonOf c 0 4 x ++ recordsOctets [] rs)) (sym e))
+        finishes csus Csus (commonPart c 0 4 count) 28
+        (λ rs e. named-packet (csus rs) ∙ ap (λ (x : ℕ). sealed Csus (commonPart c 0 4 x ++ recordsOctets [] rs)) (sym e))
 
     pub finishes-ca : (number : CaNumber) (flags : CaFlags) {f : ℕ} → f ≡ flagsField flags
-        → Behind Ca (put4 (number .0) [] ++ commonOf c f 4 count) 32 n before after → FinishesWith (ca number flags) c 32 count n before after
+        → Behind Ca (put4 (number .0) [] ++ commonPart c f 4 count) 32 n before after → FinishesWith (ca number flags) c 32 count n before after
     finishes-ca number flags {f} g =
-        finishes (ca number flags) Ca (put4 (number .0) [] ++ commonOf c f 4 count) 32
-        (λ rs e. named-packet (ca number flags rs) ∙ (λ i. sealed Ca ((put4 (number .0) [] ++ commonOf c (sym g i) 4 (sym e i)) ++ recordsOctets [] rs)))
+        finishes (ca number flags) Ca (put4 (number .0) [] ++ commonPart c f 4 count) 32
+        (λ rs e. named-packet (ca number flags rs) ∙ (λ i. sealed Ca ((put4 (number .0) [] ++ commonPart c (sym g i) 4 (sym e i)) ++ recordsOctets [] rs)))
 
   -- ---- a Hello
   hello-packet : (interval factor : ℕ) (named : Bool)
-      → packetOf (helloMessage c interval factor named) ≡ sealed Hello ((helloFields interval factor ++ commonOf c 0 (receiverLength named) 0) ++ [])
+      → packetOf (helloMessage c interval factor named) ≡ sealed Hello ((helloFields interval factor ++ commonPart c 0 (receiverLength named) 0) ++ [])
   unfolding receiversOctets
   hello-packet interval factor true = named-packet (hello interval factor [])
   hello-packet interval factor false = packet-of [] 0 (hello interval factor []) refl refl
 
   pub hello-wrote : (interval factor : ℕ) (named : Bool) {len n : ℕ} {out after h m : List ℕ} → 36 ≤ length out
       → len ≡ receiverLength named → len ≤ 4 → n ≡ 32 + len
-      → h ≡ fixedPart Hello n 0 ++ helloFields interval factor → m ≡ commonOf c 0 len 0 → length m ≡ 16 + len → Heads (h ++ m) n out after
+      → h ≡ fixedPart Hello n 0 ++ helloFields interval factor → m ≡ commonPart c 0 len 0 → length m ≡ 16 + len → Heads (h ++ m) n out after
       → Wrote (packetOf (helloMessage c interval factor named)) out after n
   hello-wrote interval factor named {len} {n} {out} {after} {h} {m} room l few e f g long w =
-      let o : List ℕ = helloFields interval factor ++ commonOf c 0 len 0 in
+      let o : List ℕ = helloFields interval factor ++ commonPart c 0 len 0 in
       let a : length h ≡ 16 = ap length f in
       let size : length (h ++ m) ≡ n = length-append h m ∙ omega arith in
       let q : h ++ m ≡ fixedPart Hello n 0 ++ o = (λ i. f i ++ g i) in
       subst (λ (z : List ℕ). Wrote z out after n)
-      (sym (hello-packet interval factor named ∙ ap (λ (x : ℕ). sealed Hello ((helloFields interval factor ++ commonOf c 0 x 0) ++ [])) (sym l)))
+      (sym (hello-packet interval factor named ∙ ap (λ (x : ℕ). sealed Hello ((helloFields interval factor ++ commonPart c 0 x 0) ++ [])) (sym l)))
       (w Hello o q [] out (omega arith) (subst (λ (x : ℕ). Put [] x out out n) (sym size) (put-none out n)))
 
 -- ---- records put one behind the other

@@ -59,8 +59,8 @@ abbrev pub commonFields : ℕ → ℕ → ℕ → ℕ → ℕ → List ℕ
 commonFields protocol group flags len count = put2 protocol (put2 group (put2 0 (put2 flags (idLength ∷ len ∷ put2 count []))))
 
 -- with its IDs, of the receiver's the first `len` octets
-unfoldable pub commonOf : Common → ℕ → ℕ → ℕ → List ℕ
-commonOf c flags len count = commonFields (c .protocol) (c .group) flags len count ++ (c .sender ++ take len (c .receiver))
+unfoldable pub commonPart : Common → ℕ → ℕ → ℕ → List ℕ
+commonPart c flags len count = commonFields (c .protocol) (c .group) flags len count ++ (c .sender ++ take len (c .receiver))
 
 -- a record without its key, originator and payload
 abbrev pub recordFields : ℕ → ℕ → ℕ → ℕ → ℕ → List ℕ

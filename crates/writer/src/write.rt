@@ -6,7 +6,7 @@ ghost use Rattle.laws.specs.Puts.{Put};
 ghost use Rattle.protocol.specs.Sizes.{idLength};
 ghost use Rattle.protocol.specs.Messages.{ca, csuRequest, csuReply, csus};
 ghost use Rattle.protocol.specs.Layouts.{recordOctets, packetOf};
-ghost use Rattle.writer.specs.Write.{namedRecord, helloMessage, receiverLength, commonOf, Wrote, Behind, FinishesWith};
+ghost use Rattle.writer.specs.Write.{namedRecord, helloMessage, receiverLength, commonPart, Wrote, Behind, FinishesWith};
 use crate::put::bit;
 use crate::put::ca_start;
 use crate::put::common_part;
@@ -63,7 +63,7 @@ pub fn put_record(
 // The head of a packet whose records stand in `out` from octet 28 up to n, and its checksum.
 fn finish_csu(out: &mut [u8], k: Kind, c: Common, count: u16, n: usize)
     requires { ⌜ (28 ≤ n) × ((n < 65536) × (n ≤ length (now out))) ⌝ }
-    ensures { λ _. ⌜ Behind k (commonOf c 0 idLength count) 28 n (now (out .entry)) (now (out .exit)) ⌝ }
+    ensures { λ _. ⌜ Behind k (commonPart c 0 idLength count) 28 n (now (out .entry)) (now (out .exit)) ⌝ }
 {
     let start = fixed_part(k, n as u16);
     let common = common_part(c, 0, 4, count);

@@ -1,7 +1,7 @@
 -- What the records from `at` on leave is what all leave: the walk's step takes the first of them, and the last has none behind it.
 use Rattle.records.proofs.StepLaws.{replies-end, replies-then}
 use Rattle.records.proofs.WalkLaws.{cursor, Walking, walk-start, walk-fits, walk-step, walk-on, walk-end}
-use Rattle.records.specs.Walks.{recordAt}
+use Rattle.records.specs.Walks.{csaAt}
 use Rattle.wire.specs.Views.{recordsOf}
 use Rattle.memory.specs.Entries.{rowsAs}
 use Rattle.memory.specs.Memory.{memoryOf}
@@ -27,7 +27,7 @@ reply-one-requires : tie.Need-reply-one-requires Inv-loop μ-loop
 reply-one-requires c κs = let l = c .before .before .loop in (l .inv .0 ∙ c .before .before .before .before .before .pre .0, (c .before .before .before .before .before .pre .1 .0, walk-fits (c .before .before .before .before .before .args .p .now) (l .at) (l .left) (l .inv .1 .0) (c .before .loop-test .taken)))
 
 loop-again : tie.Need-loop-again Inv-loop μ-loop
-loop-again c = let a = c .before .before .before .before .before .before .before .before .before .args in let p = a .p .now in let l = c .before .before .before .before .before .before .loop in let q = c .before .before .before .reply-one in let z = c .size in let w = l .inv .1 .0 in let some = c .before .before .before .before .before .loop-test .taken in (q .kept .0 ∙ l .inv .0, (walk-on p (l .at) (l .left) w some (z .result) (z .ensures), λ u h. l .inv .1 .1 u (replies-then (a .k) (recordAt p (l .at)) (l .memory) (q .last .0) (q .ensures) (recordsOf p (cursor (l .at) (l .left))) (recordsOf p (cursor (l .at + z .result) (l .left - 1))) (walk-step p (l .at) (l .left) w some (z .result) (z .ensures)) u h)))
+loop-again c = let a = c .before .before .before .before .before .before .before .before .before .args in let p = a .p .now in let l = c .before .before .before .before .before .before .loop in let q = c .before .before .before .reply-one in let z = c .size in let w = l .inv .1 .0 in let some = c .before .before .before .before .before .loop-test .taken in (q .kept .0 ∙ l .inv .0, (walk-on p (l .at) (l .left) w some (z .result) (z .ensures), λ u h. l .inv .1 .1 u (replies-then (a .k) (csaAt p (l .at)) (l .memory) (q .last .0) (q .ensures) (recordsOf p (cursor (l .at) (l .left))) (recordsOf p (cursor (l .at + z .result) (l .left - 1))) (walk-step p (l .at) (l .left) w some (z .result) (z .ensures)) u h)))
 
 same-length : tie.Need-same-length Inv-loop μ-loop
 same-length c = c .before .loop .inv .0

@@ -1,15 +1,15 @@
 use Rattle.records.proofs.StepLaws.{replies-one}
 use Rattle.records.proofs.WalkLaws.{named, named-fits}
-use Rattle.records.specs.Walks.{recordAt}
+use Rattle.records.specs.Walks.{csaAt}
 use borrow.Author.Needs.{needs}
 use Rattle.records.proofs.replies.reply_one.Statement.{statement}
 use Rattle.records.proofs.replies.reply_one.Tie as tie
 
 reply-record-requires : tie.Need-reply-record-requires
-reply-record-requires c κs = let a = c .before .before .before .before .before .args in let q = c .before .before .before .before .before .pre in let v = recordAt (a .p .now) (a .r) in let x = c .before .name in let y = c .number in ((q .0, q .1 .0), named-fits v (x .result .now) (y .result) (named v (x .result .now) (y .result) (q .1 .1 .1) (x .ensures) (y .ensures)))
+reply-record-requires c κs = let a = c .before .before .before .before .before .args in let q = c .before .before .before .before .before .pre in let v = csaAt (a .p .now) (a .r) in let x = c .before .name in let y = c .number in ((q .0, q .1 .0), named-fits v (x .result .now) (y .result) (named v (x .result .now) (y .result) (q .1 .1 .1) (x .ensures) (y .ensures)))
 
 returns : tie.Need-returns
-returns c = let a = c .before .before .before .before .before .before .before .before .args in let v = recordAt (a .p .now) (a .r) in let x = c .before .before .before .before .name in let y = c .before .before .before .number in let r = c .before .before .reply-record in replies-one (a .k) v (a .memory .now) (r .last .0) (x .result .now) (y .result) (named v (x .result .now) (y .result) (c .before .before .before .before .before .before .before .before .pre .1 .1 .1) (x .ensures) (y .ensures)) (r .ensures .0)
+returns c = let a = c .before .before .before .before .before .before .before .before .args in let v = csaAt (a .p .now) (a .r) in let x = c .before .before .before .before .name in let y = c .before .before .before .number in let r = c .before .before .reply-record in replies-one (a .k) v (a .memory .now) (r .last .0) (x .result .now) (y .result) (named v (x .result .now) (y .result) (c .before .before .before .before .before .before .before .before .pre .1 .1 .1) (x .ensures) (y .ensures)) (r .ensures .0)
 
 pub reply-one-spec : {M : Type 1} → statement M
 reply-one-spec =

@@ -1,7 +1,7 @@
 -- What the records from `at` on leave is what all leave: the walk's step takes the first of them, and the last has none behind it.
 use Rattle.records.proofs.StepLaws.{takes-end, takes-then}
 use Rattle.records.proofs.WalkLaws.{cursor, Walking, walk-start, walk-fits, walk-step, walk-on, walk-end}
-use Rattle.records.specs.Walks.{recordAt, TakesAll}
+use Rattle.records.specs.Walks.{csaAt, TakesAll}
 use Rattle.wire.specs.Views.{recordsOf}
 use mathlib.Core.List.{List}
 use mathlib.Core.Path.{_≡_, refl, _∙_}
@@ -24,7 +24,7 @@ take-one-requires : tie.Need-take-one-requires Inv-loop μ-loop
 take-one-requires c κs = let l = c .before .before .loop in (l .inv .0 ∙ c .before .before .before .before .before .pre .0, (c .before .before .before .before .before .pre .1 .0, walk-fits (c .before .before .before .before .before .args .p .now) (l .at) (l .left) (l .inv .1 .0) (c .before .loop-test .taken)))
 
 loop-again : tie.Need-loop-again Inv-loop μ-loop
-loop-again c = let a = c .before .before .before .before .before .before .before .before .before .args in let p = a .p .now in let l = c .before .before .before .before .before .before .loop in let q = c .before .before .before .take-one in let z = c .size in let w = l .inv .1 .0 in let some = c .before .before .before .before .before .loop-test .taken in (q .kept .0 ∙ l .inv .0, (walk-on p (l .at) (l .left) w some (z .result) (z .ensures), λ u x h. l .inv .1 .1 u x (takes-then (a .k) (recordAt p (l .at)) (l .n) (l .memory) (q .last .0) (q .result) (c .before .before .before .before .before .before .before .before .before .pre .1 .0) (q .ensures) (recordsOf p (cursor (l .at) (l .left))) (recordsOf p (cursor (l .at + z .result) (l .left - 1))) (walk-step p (l .at) (l .left) w some (z .result) (z .ensures)) u x h)))
+loop-again c = let a = c .before .before .before .before .before .before .before .before .before .args in let p = a .p .now in let l = c .before .before .before .before .before .before .loop in let q = c .before .before .before .take-one in let z = c .size in let w = l .inv .1 .0 in let some = c .before .before .before .before .before .loop-test .taken in (q .kept .0 ∙ l .inv .0, (walk-on p (l .at) (l .left) w some (z .result) (z .ensures), λ u x h. l .inv .1 .1 u x (takes-then (a .k) (csaAt p (l .at)) (l .n) (l .memory) (q .last .0) (q .result) (c .before .before .before .before .before .before .before .before .before .pre .1 .0) (q .ensures) (recordsOf p (cursor (l .at) (l .left))) (recordsOf p (cursor (l .at + z .result) (l .left - 1))) (walk-step p (l .at) (l .left) w some (z .result) (z .ensures)) u x h)))
 
 same-length : tie.Need-same-length Inv-loop μ-loop
 same-length c = c .before .loop .inv .0

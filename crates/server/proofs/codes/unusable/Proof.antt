@@ -1,6 +1,6 @@
 -- Type by type; a CA is excluded.
 use Rattle.server.proofs.ReadLaws.{body-is}
-use Rattle.server.specs.Events.{isCa}
+use Rattle.server.specs.Events.{isCaKind}
 use Rattle.wire.specs.Views.{messageOf}
 use Rattle.rules.specs.Links.{isPast}
 use Rattle.rules.specs.Refusals as rules
@@ -12,7 +12,7 @@ use Rattle.server.proofs.codes.unusable.Statement.{statement}
 use Rattle.server.proofs.codes.unusable.Tie as tie
 
 returns : tie.Need-returns
-returns c = λ s p x n e. absurd (false≢true (sym n ∙ ap isCa (c .enum-told .given .1)))
+returns c = λ s p x n e. absurd (false≢true (sym n ∙ ap isCaKind (c .enum-told .given .1)))
 
 returns-2 : tie.Need-returns-2
 returns-2 c = λ s p x n e.

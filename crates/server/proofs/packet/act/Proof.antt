@@ -1,7 +1,7 @@
 -- Type by type: what its function leaves is what the rules do on that body.
 use Rattle.server.proofs.ActLaws.{acts-request, acts-reply, acts-csus, acts-hello}
 use Rattle.server.proofs.ReadLaws.{body-is}
-use Rattle.server.specs.Events.{isCa}
+use Rattle.server.specs.Events.{isCaKind}
 use Rattle.slots.specs.State.{settingsOf}
 use Rattle.rules.specs.Refusals.{isHello}
 use mathlib.Core.Bool.{false≢true}
@@ -20,7 +20,7 @@ take-csus-requires : tie.Need-take-csus-requires
 take-csus-requires c κs = let a = c .before .before .before .before .before .before .before .before .before .args in (c .before .before .before .before .before .before .before .before .before .pre .0, c .before .before .before .before .before .before .before .before .before .pre .1 .0 .walks (ap isHello (body-is (a .p .now) (a .h) (c .before .before .before .enum-told4 .given .1))))
 
 returns : tie.Need-returns
-returns c = absurd (false≢true (sym (c .before .before .before .before .before .before .pre .1 .1) ∙ ap isCa (c .enum-told .given .1)))
+returns c = absurd (false≢true (sym (c .before .before .before .before .before .before .pre .1 .1) ∙ ap isCaKind (c .enum-told .given .1)))
 
 returns-2 : tie.Need-returns-2
 returns-2 c =

@@ -1,7 +1,7 @@
 -- The start and the common part are a head of 32 octets, so what stands behind it is a packet; it is the message's.
 -- Assumes nothing.
 use Rattle.writer.proofs.Heads.{behind, common-whole, finishes-ca}
-use Rattle.writer.specs.Write.{commonOf}
+use Rattle.writer.specs.Write.{commonPart}
 use Rattle.protocol.specs.Fields.{put4}
 use Rattle.protocol.specs.declared.Kind.the-variants.{Ca}
 use native.Mathlib.Omega.{arith}
@@ -28,7 +28,7 @@ returns c =
     let x = c .before .before .before .before .before .before .before .flags-of in
     let m = c .before .before .before .before .before .before .common-part in
     finishes-ca (a .c) (widths (c .before .before .before .before .before .before .before .before .before .before)) (a .number) (a .flags) (x .ensures)
-    (behind Ca (put4 (a .number .0) [] ++ commonOf (a .c) (x .result) 4 (a .count)) (f .result) (m .result) 32 (a .n) (λ i. f .ensures i ++ common-whole (a .c) (widths (c .before .before .before .before .before .before .before .before .before .before)) (x .result) (a .count) (m .ensures) i) (omega (arith, start (c .before .before .before .before .before .before .before .before), common (c .before .before .before .before .before .before))) (c .before .before .put-head .ensures))
+    (behind Ca (put4 (a .number .0) [] ++ commonPart (a .c) (x .result) 4 (a .count)) (f .result) (m .result) 32 (a .n) (λ i. f .ensures i ++ common-whole (a .c) (widths (c .before .before .before .before .before .before .before .before .before .before)) (x .result) (a .count) (m .ensures) i) (omega (arith, start (c .before .before .before .before .before .before .before .before), common (c .before .before .before .before .before .before))) (c .before .before .put-head .ensures))
 
 pub finish-ca-spec : {M : Type 1} → statement M
 finish-ca-spec =

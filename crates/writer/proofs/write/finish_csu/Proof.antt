@@ -1,7 +1,7 @@
 -- The fixed part and the common part are a head of 28 octets, so what stands behind it is a packet.
 -- Assumes nothing.
 use Rattle.writer.proofs.Heads.{behind, common-whole}
-use Rattle.writer.specs.Write.{commonOf}
+use Rattle.writer.specs.Write.{commonPart}
 use native.Mathlib.Omega.{arith}
 use mathlib.Core.List.{_++_}
 use lib.ListN.{length}
@@ -24,7 +24,7 @@ returns c =
     let a = c .before .before .before .before .before .before .before .before .before .args in
     let f = c .before .before .before .before .before .before .before .fixed-part in
     let m = c .before .before .before .before .before .before .common-part in
-    behind (a .k) (commonOf (a .c) 0 4 (a .count)) (f .result) (m .result) 28 (a .n) (λ i. f .ensures i ++ common-whole (a .c) (widths (c .before .before .before .before .before .before .before .before .before)) 0 (a .count) (m .ensures) i) (omega (arith, start (c .before .before .before .before .before .before .before), common (c .before .before .before .before .before .before))) (c .before .before .put-head .ensures)
+    behind (a .k) (commonPart (a .c) 0 4 (a .count)) (f .result) (m .result) 28 (a .n) (λ i. f .ensures i ++ common-whole (a .c) (widths (c .before .before .before .before .before .before .before .before .before)) 0 (a .count) (m .ensures) i) (omega (arith, start (c .before .before .before .before .before .before .before), common (c .before .before .before .before .before .before))) (c .before .before .put-head .ensures)
 
 pub finish-csu-spec : {M : Type 1} → statement M
 finish-csu-spec =
