@@ -17,12 +17,14 @@ use Rattle.protocol.specs.Messages.{CsaRecord, Message, ca}
 use Rattle.protocol.specs.Layouts.{packetOf}
 use Rattle.rules.specs.Server as rules
 use Rattle.rules.specs.Server.{Row, Request}
-use Rattle.rules.specs.Links.{CaIn, CaRule, refuseCa, becomeSlave, becomeMaster, repeat, slaveOn, masterOn, masterDone, ignore, restart, isLive, enters, negotiating, caMove}
+use Rattle.rules.specs.Links.{CaIn, CaRule, refuseCa, becomeSlave, becomeMaster, repeat, slaveOn, masterOn, masterDone, ignore, restart, isLive, enters}
+use Rattle.rules.specs.Links.{negotiating, caMove}
 use Rattle.rules.specs.Rows.{nextUsed, usedFrom, rowsOf, clearedIf}
 use Rattle.rules.specs.Requests.{Wanted, allTakenIn}
 use Rattle.rules.specs.Slots.{toPeer, withLink, withKept, withListed, withRequests, caSent, emptied, moved, alignedIf, completed}
 use Rattle.rules.specs.Sent.{newPacket, octetsOf}
-use Rattle.rules.specs.Alignment.{CaPacket, summaryRecord, answerFrom, answerTo, answerMore, caFlags, caSentBy, wantedOf, withWanted, taking, keeping, answering, caSlot}
+use Rattle.rules.specs.Alignment.{CaPacket, summaryRecord, answerFrom, answerTo, answerMore, caFlags, caSentBy, wantedOf, withWanted, taking, keeping}
+use Rattle.rules.specs.Alignment.{answering, caSlot}
 use Rattle.rules.proofs.PastLaws.{enters-same, moved-link}
 use Rattle.memory.specs.declared.next.Picks.{Picks}
 use Rattle.memory.specs.Memory.{rowsIn, keptIn, Memory, memoryOf, requestsOf, keptOf, keptPut}
@@ -38,7 +40,8 @@ use Rattle.actions.specs.declared.parts.Acted.{Acted}
 use Rattle.writer.specs.Write.{Wrote}
 use Rattle.actions.specs.Parts.{slotWith, Leaves, Moves, Acts}
 use Rattle.actions.specs.Steps.{commonOf, ourMessage, SendsCa, headAt, caPacketAt, isMaster, answers, takingIn, TakesCa}
-use Rattle.actions.proofs.PartLaws.{kept-eight, kept-put, left-rows, left-slot, leaves-as, leaves-then, leaves-requests, leaves-kept, leaves-same, wrote-none, acts-then}
+use Rattle.actions.proofs.PartLaws.{kept-eight, kept-put, left-rows, left-slot, leaves-as, leaves-then, leaves-requests, leaves-kept, leaves-same}
+use Rattle.actions.proofs.PartLaws.{wrote-none, acts-then}
 use Rattle.actions.proofs.AlignmentLaws.{kept-of}
 
 -- ---- summaries taken in
@@ -89,7 +92,8 @@ module _ (k time : ℕ) (s : Settings) (x : Slot) (p : Picks) (before after out 
       (λ i. packetOf (ourMessage (ec i) (ca (x .link .number) (ef i) (rowsOf summaryRecord (rowsIn before) (picksOf p))))) sent in
       record {
         left =
-            leaves-kept k (sentSlot (settingsOf s) time (slotWith x k before) (rowsIn before) (picksOf p) (p .next)) before after (r .slot) (packetOf M) (S .memory)
+            leaves-kept k (sentSlot (settingsOf s) time (slotWith x k before) (rowsIn before) (picksOf p) (p .next)) before after (r .slot) (packetOf M)
+            (S .memory)
             (sym (kept-slot k (packetOf M) before after h (S .memory) (r .slot)) ∙ er
             ∙ ap completed (kept-slot k (packetOf M) before after h (S .memory) b ∙ eb Q (packetOf M) ∙ ap (caSent time) (ea Q (packetOf M))));
         wrote = S .wrote;

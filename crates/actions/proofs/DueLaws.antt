@@ -45,10 +45,12 @@ pub plan-if : (b c : Bool) (due other : Due) (r : Plan) → pick c due Nothing �
 plan-if b c due other r f e h = h ∙ (λ i. record { due = (sym f ∙ ap (λ (z : Bool). pick z due Nothing) (sym e)) i; picks = noPicks })
 
 module _ (k : ℕ) (x : Slot) (memory : List ℕ) (r : Plan) where
-  pub planned : (due : Due) (d : poll.Due) → GoodPicks due k x memory noPicks → dueKind due ≡ d → r ≡ record { due = due; picks = noPicks } → Plans d k x memory r
+  pub planned : (due : Due) (d : poll.Due) → GoodPicks due k x memory noPicks → dueKind due ≡ d → r ≡ record { due = due; picks = noPicks }
+      → Plans d k x memory r
   planned due d g e h = subst (λ (p : Plan). Plans d k x memory p) (sym h) (record { which = e; rows = g })
 
-  pub planned-if : (due : Due) → GoodPicks due k x memory noPicks → (b : Bool) → r ≡ record { due = pick b due Nothing; picks = noPicks } → Plans (pick b (dueKind due) poll.nothingDue) k x memory r
+  pub planned-if : (due : Due) → GoodPicks due k x memory noPicks → (b : Bool) → r ≡ record { due = pick b due Nothing; picks = noPicks }
+      → Plans (pick b (dueKind due) poll.nothingDue) k x memory r
   planned-if due g true h = planned due (dueKind due) g refl h
   planned-if due g false h = planned Nothing poll.nothingDue tt refl h
 
@@ -125,7 +127,8 @@ csus-count : (l : List Request) (n : ℕ) → n ≡ length l → not (eqb n 0) �
 csus-count [] n e = rw (eq-eqb n 0 e)
 csus-count (q ∷ l) n e = rw (ne-eqb n 0 (λ z. omega arith))
 
-pub csus-left : (a : Bool) (s : List ℕ) (k n : ℕ) → k < 8 → a ≡ true → n ≡ length (requestsIn s k) → not (eqb n 0) ≡ (a && not (isEmpty (requestsOf (memoryOf s) k)))
+pub csus-left : (a : Bool) (s : List ℕ) (k n : ℕ) → k < 8 → a ≡ true → n ≡ length (requestsIn s k) → not (eqb n 0)
+    ≡ (a && not (isEmpty (requestsOf (memoryOf s) k)))
 csus-left a s k n h e f = rw (e, requests-of s k h) (csus-count (requestsIn s k) n f)
 
 -- ---- by the state
@@ -142,7 +145,8 @@ module _ (time k : ℕ) (x : Slot) (memory : List ℕ) (y : rules.Slot) (r : Pla
 -- ---- the first that is due
 module _ (k : ℕ) (x : Slot) (memory : List ℕ) (r : Plan) (b : Bool) (d : poll.Due) where
   -- `first` where b holds, else the other
-  pub due-first : (due : Due) → GoodPicks due k x memory noPicks → b ≡ true → r ≡ record { due = due; picks = noPicks } → Plans (pick b (dueKind due) d) k x memory r
+  pub due-first : (due : Due) → GoodPicks due k x memory noPicks → b ≡ true → r ≡ record { due = due; picks = noPicks }
+      → Plans (pick b (dueKind due) d) k x memory r
   due-first due g e h = planned k x memory r due _ g (rw e) h
 
   pub due-other : (first : poll.Due) → b ≡ false → Plans d k x memory r → Plans (pick b first d) k x memory r

@@ -30,7 +30,8 @@ puts-within most rs at out after n p few room =
     let c : length rs * most ≤ 4 * most = mul-le-mul-right most few in
     (omega arith, omega arith)
 
-pub places-within : (most : ℕ) (rs : List CsaRecord) (at : ℕ) (out after : List ℕ) (x : Placed) → Places most rs at out after x × (x .count ≤ 4) → at + 4 * most ≤ 284
+pub places-within : (most : ℕ) (rs : List CsaRecord) (at : ℕ) (out after : List ℕ) (x : Placed) → Places most rs at out after x × (x .count ≤ 4)
+    → at + 4 * most ≤ 284
     → (at ≤ x .next) × (x .next ≤ 284)
 places-within most rs at out after x (p, few) room =
     let e = p .count in
@@ -45,7 +46,8 @@ finish-wrote body c most rs at out mid after x p room long f =
     f rs out (p .0 .count) (omega arith) (p .0 .puts .octets)
 
 -- ---- one only where there are records
-none-put : (body : List CsaRecord → Body) (c : Common) (rs : List CsaRecord) (out after : List ℕ) (n : ℕ) → length rs ≡ 0 → Put (recordsOctets [] rs) 28 out after n
+none-put : (body : List CsaRecord → Body) (c : Common) (rs : List CsaRecord) (out after : List ℕ) (n : ℕ) → length rs ≡ 0
+    → Put (recordsOctets [] rs) 28 out after n
     → Wrote (pick (isEmpty rs) [] (packetOf (ourMessage c (body rs)))) out after 0
 unfolding recordsOctets
 none-put body c [] out after n e p =

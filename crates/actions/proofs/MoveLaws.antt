@@ -56,7 +56,8 @@ module _ (k : ℕ) (l : Link) (x : Slot) (before after : List ℕ) (r : Slot) wh
       → memoryOf mid ≡ emptiedIf b k (memoryOf before)
       → memoryOf after ≡ withRows (clearedIf b k (rowsIn mid)) (memoryOf mid)
       → ((qs : List Request) (kept : List ℕ)
-      → slotOf r (emptyIf (enters (x .link .alignment) (l .alignment)) qs) (emptyIf (enters (x .link .alignment) (l .alignment)) kept) ≡ moved l (slotOf x qs kept))
+      → slotOf r (emptyIf (enters (x .link .alignment) (l .alignment)) qs) (emptyIf (enters (x .link .alignment) (l .alignment)) kept)
+      ≡ moved l (slotOf x qs kept))
       → Moves k l x before after r
   moves mid b e f g h =
       let a : Bool = enters (x .link .alignment) (l .alignment) in

@@ -43,7 +43,8 @@ module _ (l : Link) (time : ℕ) (h : HelloState) (heard : Bool) (e : heard ≡ 
   stale-not b = rw (told false b)
 
 -- the link then
-pub check-still : (time : ℕ) (l : Link) (b : Bool) → b ≡ (hearsPeer (l .hello) && stale (l .interval) (l .factor) (l .heard) time) → b ≡ false → l ≡ checkMove time l
+pub check-still : (time : ℕ) (l : Link) (b : Bool) → b ≡ (hearsPeer (l .hello) && stale (l .interval) (l .factor) (l .heard) time) → b ≡ false → l
+    ≡ checkMove time l
 check-still time l b e f = rw (sym e ∙ f)
 
 pub check-stale : (time : ℕ) (l : Link) (b : Bool) → b ≡ (hearsPeer (l .hello) && stale (l .interval) (l .factor) (l .heard) time) → b ≡ true
@@ -145,7 +146,8 @@ module _ (s : rules.Settings) (now k : ℕ) (t₀ t₁ t₂ m₀ m₁ m₂ m₃ 
       let due : dueKind (d .due) ≡ poll.dueOf s now (clearedIf (entered s now k rows slot) k rows) k (left s now k rows slot) =
       c .which ∙ (λ i. poll.dueOf s now (r₂ i) k (y₂ i)) in
       let g = same s now k rows slot in
-      let to : dueSlot (dueKind (d .due)) s now (rowsIn m₂) k (slotNow t₁ k m₂) ≡ pollSlot s now rows k slot = (λ i. dueSlot (due i) s now (r₂ i) k (y₂ i)) ∙ g .0 in
+      let to : dueSlot (dueKind (d .due)) s now (rowsIn m₂) k (slotNow t₁ k m₂) ≡ pollSlot s now rows k slot = (λ i. dueSlot (due i) s now (r₂ i) k (y₂ i))
+      ∙ g .0 in
       let what : dueSent (dueKind (d .due)) s (rowsIn m₂) k (slotNow t₁ k m₂) ≡ pollSent s now rows k slot = (λ i. dueSent (due i) s (r₂ i) k (y₂ i)) ∙ g .1 in
       let cleared = ap (λ (l : Link). clearedIf (enters (slot .link .alignment) (l .alignment)) k rows) (sym (poll-link s now k rows slot)) in
       record {

@@ -65,7 +65,8 @@ module _ (s : Settings) (x : Slot) (k : ℕ) (m : List ℕ) (c : Common) (e : c 
 pub no-picks-fit : (p : Picks) → p ≡ noPicks → (p .count ≤ 4) × (length (p .rows) ≡ 4)
 no-picks-fit p e = subst (λ (q : Picks). (q .count ≤ 4) × (length (q .rows) ≡ 4)) (sym e) (omega arith, refl)
 
-pub good-update : (d : Due) (k : ℕ) (x : Slot) (m : List ℕ) (p : Picks) → d ≡ Update → GoodPicks d k x m p → Picked (x .cursor) (nextWaiting (rowsIn m) k (x .cursor)) p
+pub good-update : (d : Due) (k : ℕ) (x : Slot) (m : List ℕ) (p : Picks) → d ≡ Update → GoodPicks d k x m p
+    → Picked (x .cursor) (nextWaiting (rowsIn m) k (x .cursor)) p
 good-update d k x m p e g = subst (λ (due : Due). GoodPicks due k x m p) e g
 
 module _ (d : Due) (k : ℕ) (s : rules.Settings) (x : Slot) (m m′ out out′ : List ℕ) (r : ℕ) where
@@ -76,7 +77,11 @@ module _ (d : Due) (k : ℕ) (s : rules.Settings) (x : Slot) (m m′ out out′ 
   writes-as e q h = subst Writes-as (sym q) h
 
   pub writes-first : d ≡ FirstCa → SendsCa k (packetOf (firstCaOf s (slotWith x k m))) m m′ out out′ r → Writes-as d
-  writes-first q h = writes-as FirstCa q (record { memory = λ now. h .memory ∙ sym (requests-kept (packetOf (firstCaOf s (slotWith x k m)))); wrote = h .wrote }) where
+  writes-first q h = writes-as FirstCa q (record {
+    memory = λ now. h .memory ∙ sym (requests-kept (packetOf (firstCaOf s (slotWith x k m))));
+    wrote =
+        h .wrote;
+  }) where
     requests-kept : (p : List ℕ) → keptPut k p (requestsPut k (requestsOf (memoryOf m) k) (memoryOf m)) ≡ keptPut k p (memoryOf m)
     requests-kept p = ap (keptPut k p) (requests-same (memoryOf m) k)
 
@@ -112,7 +117,11 @@ module _ (d : Due) (time : ℕ) (p : Picks) (k : ℕ) (t t′ : List ℕ) where
   put-hello q h = put-as Hello q (record { slot = λ s rows j qs kept n. h .slot qs kept; others = h .others })
 
   pub put-first : d ≡ FirstCa → Changes k (caSent time) t t′ → PutsDue (dueKind d) time p k t t′
-  put-first q h = put-as FirstCa q (record { slot = λ s rows j qs kept n. h .slot qs (packetOf (firstCaOf s (slotOf (slotIn t k) qs kept))); others = h .others })
+  put-first q h = put-as FirstCa q (record {
+    slot = λ s rows j qs kept n. h .slot qs (packetOf (firstCaOf s (slotOf (slotIn t k) qs kept)));
+    others =
+        h .others;
+  })
 
   pub put-kept : d ≡ KeptCa → Changes k (caSent time) t t′ → PutsDue (dueKind d) time p k t t′
   put-kept q h = put-as KeptCa q (record { slot = λ s rows j qs kept n. h .slot qs kept; others = h .others })
@@ -134,7 +143,8 @@ pub put-nothing : (d : Due) (time : ℕ) (p : Picks) (k : ℕ) (t : List ℕ) �
 put-nothing d time p k t q = put-as d time p k t t Nothing q (record { slot = λ s rows j qs kept n. refl; others = λ j n. refl })
 
 -- ---- both
-onward : (d : Due) (k : ℕ) (x : Slot) (m : List ℕ) (p : Picks) → GoodPicks d k x m p → dueKind d ≡ poll.anUpdate → p .next ≡ behind (x .cursor) (nextWaiting (rowsIn m) k (x .cursor))
+onward : (d : Due) (k : ℕ) (x : Slot) (m : List ℕ) (p : Picks) → GoodPicks d k x m p → dueKind d ≡ poll.anUpdate → p .next
+    ≡ behind (x .cursor) (nextWaiting (rowsIn m) k (x .cursor))
 onward Nothing k x m p g e = let z : _≡_ {A = ℕ} 0 1 = cc in absurd (omega arith)
 onward Hello k x m p g e = let z : _≡_ {A = ℕ} 0 1 = cc in absurd (omega arith)
 onward FirstCa k x m p g e = let z : _≡_ {A = ℕ} 0 1 = cc in absurd (omega arith)
@@ -144,7 +154,8 @@ onward Update k x m p g e = g .onward
 
 module _ (d : Due) (k time : ℕ) (s : rules.Settings) (p : Picks) (t t′ m m′ out out′ : List ℕ) (n : ℕ) where
   pub sends : GoodPicks d k (slotIn t k) m p → WritesDue (dueKind d) k s (slotIn t k) m m′ out out′ n → PutsDue (dueKind d) time p k t t′
-      → ActsAt k (dueSlot (dueKind d) s time (rowsIn m) k (slotNow t k m)) (rowsIn m) (octetsOf (dueSent (dueKind d) s (rowsIn m) k (slotNow t k m))) t t′ m m′ out out′ n
+      → ActsAt k (dueSlot (dueKind d) s time (rowsIn m) k (slotNow t k m)) (rowsIn m) (octetsOf (dueSent (dueKind d) s (rowsIn m) k (slotNow t k m))) t t′ m
+      m′ out out′ n
   sends g w h =
       let z : rules.Slot = dueSlot (dueKind d) s time (rowsIn m) k (slotNow t k m) in
       record {

@@ -61,7 +61,8 @@ module _ (live : ℕ → Bool) (k : ℕ) (rs : List CsaRecord) (before after : L
   reply-wrote : (s : Settings) (x : Slot) (c : Common) (to : Placed) (out mid out′ : List ℕ) (n : ℕ) → 284 ≤ length out → c ≡ commonOf s (x .peer)
       → Places 32 (map summaryOf (allUpdated live k rs (updatedNow k [] before) .replies)) 28 out mid to × (to .count ≤ 4)
       → WritesSome csuReply c (to .count) (to .next) mid out′ n
-      → Wrote (octetsOf (unlessEmpty (settingsOf s) (slotWith x k before) csuReply (map summaryOf (updatedBy live k rs (rowsIn before) [] .replies)))) out out′ n
+      → Wrote (octetsOf (unlessEmpty (settingsOf s) (slotWith x k before) csuReply (map summaryOf (updatedBy live k rs (rowsIn before) [] .replies)))) out
+      out′ n
   unfolding now-updated
   reply-wrote s x c to out mid out′ n long e p w =
       let old : List CsaRecord = map summaryOf (now-updated .replies) in

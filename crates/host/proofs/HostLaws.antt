@@ -51,5 +51,6 @@ module _ {input slots slots′ before after : List ℕ} {a : Answer} (r : Runs i
 
   pub ran-not : eqb (codeNumber (a .outcome)) 0 ≡ false → 255 ≡ usedAfter input
   ran-not h =
-      let bad : startsGood input ≡ false = is-false (startsGood input) (λ g. eqb-false (codeNumber (a .outcome)) 0 h (r .code ∙ ap (λ (t : Bool). pick t 0 17) g)) in
+      let bad : startsGood input ≡ false = is-false (startsGood input) (λ g. eqb-false (codeNumber (a .outcome)) 0 h
+      (r .code ∙ ap (λ (t : Bool). pick t 0 17) g)) in
       ap (λ (t : Bool). pick t (rowsUsed (run (fresh (settingsIn input)) (eventsIn input) .rows)) 255) (sym bad)

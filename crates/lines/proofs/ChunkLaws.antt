@@ -65,7 +65,8 @@ lined {kind} {number} {s} {slots} {slots′} {before} {after} {out} {out′} {a}
 }
 
 -- ---- the loop: what is said so far, and what it makes of the text of the rest
-pub record Said (ends : Bool) (input : List ℕ) (n number : ℕ) (x₀ : rules.Server) (text₀ : List ℕ) (x : rules.Server) (at left k end : ℕ) (text : List ℕ) : Type 0 where
+pub record Said (ends : Bool) (input : List ℕ) (n number : ℕ) (x₀ : rules.Server) (text₀ : List ℕ) (x : rules.Server) (at left k end : ℕ) (text : List ℕ) :
+    Type 0 where
   pub done : ℕ
   pub sum : done + left ≡ n
   pub place : at ≡ 292 * done
@@ -88,10 +89,12 @@ said-none ends input n number x text = record {
   tells = λ i e u h. let z : i + 0 ≡ i = omega arith in subst (λ (j : ℕ). LinesText (linesIn ends n j x input) u) z h;
 }
 
-module _ {ends : Bool} {input : List ℕ} {n number : ℕ} {x₀ : rules.Server} {text₀ : List ℕ} {s : Server} {slots before : List ℕ} {at left k end : ℕ} {text : List ℕ}
+module _ {ends : Bool} {input : List ℕ} {n number : ℕ} {x₀ : rules.Server} {text₀ : List ℕ} {s : Server} {slots before : List ℕ} {at left k end : ℕ}
+    {text : List ℕ}
     (w : Said ends input n number x₀ text₀ (serverOf s slots before) at left k end text) where
   -- one record more: `first` is the record at `at`
-  module _ (first : List ℕ) (less : ℕ) {slots′ after text′ : List ℕ} {r : Stepped} (room : 84 * n ≤ length text₀) (f : first ≡ part input at 292) (e : left ≡ suc less)
+  module _ (first : List ℕ) (less : ℕ) {slots′ after text′ : List ℕ} {r : Stepped} (room : 84 * n ≤ length text₀) (f : first ≡ part input at 292)
+      (e : left ≡ suc less)
       (l : Lined (recordKind first) k s slots slots′ before after end text text′ r) where
     abbrev x : rules.Server
     x = serverOf s slots before
@@ -103,7 +106,8 @@ module _ {ends : Bool} {input : List ℕ} {n number : ℕ} {x₀ : rules.Server}
     unfolding linesIn
     split i =
         ap (λ (m : ℕ). linesIn ends m i x (drop at input)) e
-        ∙ ap (λ (v : List ℕ). lineOf (recordKind (part input at 292)) i x ∷ linesIn ends less (suc i) (serverAfter (recordKind (part input at 292)) x) v) (drop-drop 292 at input)
+        ∙ ap (λ (v : List ℕ). lineOf (recordKind (part input at 292)) i x ∷ linesIn ends less (suc i) (serverAfter (recordKind (part input at 292)) x) v)
+        (drop-drop 292 at input)
         ∙ ap (λ (v : List ℕ). lineOf (recordKind v) i x ∷ linesIn ends less (suc i) (serverAfter (recordKind v) x) (drop (at + 292) input)) (sym f)
         ∙ ap (λ (z : rules.Server). lineOf (recordKind first) i x ∷ linesIn ends less (suc i) z (drop (at + 292) input)) (sym (l .server))
 
@@ -161,7 +165,8 @@ first-means : (input : List ℕ) (b : Bool) → startsGood input ≡ b → (t : 
 first-means input b e t h = rw e (one-line (pick b (aLine 0 0 [] (fresh (settingsIn input))) cut) t h)
 
 module _ {input slots slots′ before after text text′ : List ℕ} {a : Answer} {n : ℕ} (b : Begins input slots slots′ before after a) where
-  pub opens : startsGood input ≡ true → PutsNumbers (0 ∷ 0 ∷ 0 ∷ 0 ∷ []) 0 text text′ n → Opens input slots slots′ before after text text′ (record { answer = a; text = n })
+  pub opens : startsGood input ≡ true → PutsNumbers (0 ∷ 0 ∷ 0 ∷ 0 ∷ []) 0 text text′ n
+      → Opens input slots slots′ before after text text′ (record { answer = a; text = n })
   opens g p = record { begins = b; prints = record { octets = p .octets; means = λ k e. first-means input true g (p .octets) (p .means); put = p .put } }
 
   pub opens-cut : startsGood input ≡ false → Put cutText 0 text text′ n → Opens input slots slots′ before after text text′ (record { answer = a; text = n })
@@ -175,7 +180,8 @@ ends-lines zero k s input = by (isEmpty input) where
   by true = refl
   by false = refl
 ends-lines (suc n) k s input =
-    ap (λ (l : List Line). lineOf (recordKind (take replayRecord input)) k s ∷ l) (ends-lines n (suc k) (serverAfter (recordKind (take replayRecord input)) s) (drop replayRecord input))
+    ap (λ (l : List Line). lineOf (recordKind (take replayRecord input)) k s ∷ l)
+    (ends-lines n (suc k) (serverAfter (recordKind (take replayRecord input)) s) (drop replayRecord input))
 
 pub in-chunks : (ends : Bool) (n m k : ℕ) (s : rules.Server) (input : List ℕ)
     → linesIn ends (n + m) k s input ≡ linesIn false n k s input ++ linesIn ends m (k + n) (run s (eventsFrom n input)) (drop (replayRecord * n) input)
@@ -217,5 +223,6 @@ chunks {input} {last} {b} {number} {n} {at} {left} {k} {end} {r} {s} {x} {slots}
       host = λ c is f. subst (λ (m : ℕ). Hosted c x slots′ after (is ++ items (serverOf s slots before) (eventsFrom m input))) e (went-host g z c is f);
       next = λ i q. w .count i q ∙ ap (λ (m : ℕ). (i + m) % numbersMost) all;
       rest = w .place ∙ ap (λ (m : ℕ). 292 * m) all;
-      prints = subst (λ (m : ℕ). Prints number (λ i. linesIn (endsWith last input) m i (serverOf s slots before) input) 0 text text′ r) e (said-all w z h room p);
+      prints = subst (λ (m : ℕ). Prints number (λ i. linesIn (endsWith last input) m i (serverOf s slots before) input) 0 text text′ r) e
+          (said-all w z h room p);
     }

@@ -31,7 +31,8 @@ use Rattle.lines.specs.Lines.{noSettings, Untimed, Begins, Takes}
 -- ---- a record's event
 module _ {e : Event} {s : Server} {slots slots′ before after : List ℕ} {r : Answer} where
   -- an event with an out buffer
-  pub takes-out : {out out′ : List ℕ} {kind : RecordKind} → anEvent e ≡ kind → DoesOut e s slots slots′ before after out out′ r → Takes kind s slots slots′ before after out out′ r
+  pub takes-out : {out out′ : List ℕ} {kind : RecordKind} → anEvent e ≡ kind → DoesOut e s slots slots′ before after out out′ r
+      → Takes kind s slots slots′ before after out out′ r
   takes-out {out} {out′} h d =
       let x = d .steps .steps in
       subst (λ (k : RecordKind). Takes k s slots slots′ before after out out′ r) h (record {
@@ -57,7 +58,8 @@ module _ {e : Event} {s : Server} {slots slots′ before after : List ℕ} {r : 
       })
 
 -- a record of no event
-pub takes-none : {s : Server} {slots before out : List ℕ} {r : Answer} {kind : RecordKind} → other ≡ kind → r ≡ record { server = s; outcome = Refused Size; written = 0 }
+pub takes-none : {s : Server} {slots before out : List ℕ} {r : Answer} {kind : RecordKind} → other ≡ kind → r
+    ≡ record { server = s; outcome = Refused Size; written = 0 }
     → Takes kind s slots slots before before out out r
 unfolding written
 takes-none {s} {slots} {before} {out} {r} h e =
@@ -137,7 +139,8 @@ code-picks : (s : rules.Settings) → settingsCode s ≡ pick (eqb (settingsCode
 code-picks s = two-codes (not (eqb (length (s .id)) idLength) || (eqb (s .interval) 0 || eqb (s .factor) 0))
 
 module _ {slots slots′ before after : List ℕ} {r : Answer} where
-  pub begins-not : (input : List ℕ) (s : Settings) → startsGood input ≡ false → s ≡ noSettings → Starts s slots slots′ before after r → Begins input slots slots′ before after r
+  pub begins-not : (input : List ℕ) (s : Settings) → startsGood input ≡ false → s ≡ noSettings → Starts s slots slots′ before after r
+      → Begins input slots slots′ before after r
   begins-not input s h e x = record {
     code = x .code ∙ ap (λ (z : Settings). settingsCode (settingsOf z)) e ∙ ap (λ (b : Bool). pick b 0 17) (sym h);
     server = λ g. absurd (false≢true (sym h ∙ g));

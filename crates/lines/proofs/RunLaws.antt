@@ -68,7 +68,8 @@ module _ {input : List ℕ} {from n : ℕ} {s₀ : Server} {slots₀ memory₀ :
         ran = w .ran ∙ ap (run x) split ∙ run-kind (recordKind first) x rest ∙ ap (λ (z : rules.Server). run z rest) (sym after);
         did = w .did ++ itemsOf (recordKind first) x;
         saw = w .saw ∙ ap (λ (es : List Event). w .did ++ items x es) split
-            ∙ ap (λ (l : List Item). w .did ++ l) (items-kind (recordKind first) x rest ∙ ap (λ (z : rules.Server). itemsOf (recordKind first) x ++ items z rest) (sym after))
+            ∙ ap (λ (l : List Item). w .did ++ l) (items-kind (recordKind first) x rest
+            ∙ ap (λ (z : rules.Server). itemsOf (recordKind first) x ++ items z rest) (sym after))
             ∙ sym (append-assoc (w .did) (itemsOf (recordKind first) x) (items y rest));
         host = λ c is g. rw (← (append-assoc is (w .did) (itemsOf (recordKind first) x))) (h c (is ++ w .did) (w .host c is g));
       }

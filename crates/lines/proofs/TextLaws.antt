@@ -91,7 +91,8 @@ module _ (n behind : ℕ) where
     below = h;
     some = omega arith;
     few = omega arith;
-    text = λ i. at-digit a (n / 10 / 10 % 10) (omega arith) (omega arith) i ∷ at-digit b (n / 10 % 10) (omega arith) f i ∷ at-digit c (n % 10) (omega arith) k i ∷ behind ∷ [];
+    text = λ i. at-digit a (n / 10 / 10 % 10) (omega arith) (omega arith) i ∷ at-digit b (n / 10 % 10) (omega arith) f i ∷ at-digit c (n % 10) (omega arith)
+        k i ∷ behind ∷ [];
   }
 
   pub four-digits : (a b c d : ℕ) → 1000 ≤ n → n < 10000 → a ≡ 48 + n / 1000 → b ≡ 48 + n / 100 % 10 → c ≡ 48 + n / 10 % 10 → d ≡ 48 + n % 10
@@ -105,7 +106,8 @@ module _ (n behind : ℕ) where
         ∷ at-digit c (n / 10 % 10) (omega arith) k i ∷ at-digit d (n % 10) (omega arith) l i ∷ behind ∷ [];
   }
 
-  pub five-digits : (a b c d x : ℕ) → 10000 ≤ n → n < 100000 → a ≡ 48 + n / 10000 → b ≡ 48 + n / 1000 % 10 → c ≡ 48 + n / 100 % 10 → d ≡ 48 + n / 10 % 10 → x ≡ 48 + n % 10
+  pub five-digits : (a b c d x : ℕ) → 10000 ≤ n → n < 100000 → a ≡ 48 + n / 10000 → b ≡ 48 + n / 1000 % 10 → c ≡ 48 + n / 100 % 10 → d ≡ 48 + n / 10 % 10
+      → x ≡ 48 + n % 10
       → Short n behind 5 (a ∷ b ∷ c ∷ d ∷ x ∷ behind ∷ [])
   five-digits a b c d x g h e f k l m = record {
     least = λ z. g;
@@ -113,7 +115,8 @@ module _ (n behind : ℕ) where
     some = omega arith;
     few = omega arith;
     text = λ i. at-digit a (n / 10 / 10 / 10 / 10 % 10) (omega arith) (omega arith) i ∷ at-digit b (n / 10 / 10 / 10 % 10) (omega arith) (omega arith) i
-        ∷ at-digit c (n / 10 / 10 % 10) (omega arith) (omega arith) i ∷ at-digit d (n / 10 % 10) (omega arith) l i ∷ at-digit x (n % 10) (omega arith) m i ∷ behind ∷ [];
+        ∷ at-digit c (n / 10 / 10 % 10) (omega arith) (omega arith) i ∷ at-digit d (n / 10 % 10) (omega arith) l i ∷ at-digit x (n % 10) (omega arith) m i ∷
+        behind ∷ [];
   }
 
 -- four numbers put, each behind the one before

@@ -93,7 +93,8 @@ pub renewed-as : (live : ℕ → Bool) (k : ℕ) (r : CsaRecord) → revalued (v
 renewed-as live k r = fun-ext (renewed-by live k r)
 
 -- what `store_record` leaves
-pub stored-as : (s t : List ℕ) (e : Entry) (n : CsaNumber) (p : List ℕ) (hops left m k : ℕ) (live : ℕ → Bool) → left ≡ hops - 1 → isMarked m ≡ spread live k left
+pub stored-as : (s t : List ℕ) (e : Entry) (n : CsaNumber) (p : List ℕ) (hops left m k : ℕ) (live : ℕ → Bool) → left ≡ hops - 1 → isMarked m
+    ≡ spread live k left
     → memoryOf t ≡ rowsAs (putRows e (value n p left) (isMarked m)) s → memoryOf t ≡ rowsAs (rowsBy stored live k (received hops n e p)) s
 stored-as s t e n p hops left m k live v w put =
     let b : isMarked m ≡ spread live k (hops - 1) = w ∙ ap (spread live k) v in

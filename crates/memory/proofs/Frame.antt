@@ -19,9 +19,11 @@ use Rattle.protocol.specs.Fields.{octet, field2, field4}
 use Rattle.protocol.specs.Numbers.{csaOf}
 use Rattle.protocol.specs.Sizes.{idLength, keyMost, packetMost}
 use Rattle.rules.specs.Server.{slotsMost, rowsMost, requestsMost, free, used}
-use Rattle.memory.specs.Layout.{numberPlace, namePlace, rowSize, requestsAt, requestSize, listSize, keptSize, memorySize, rowPlace, lengthPlace, markPlace, topPlace, tagPlace, listPlace, requestTagPlace, requestPlace, keptPlace}
+use Rattle.memory.specs.Layout.{numberPlace, namePlace, rowSize, requestsAt, requestSize, listSize, keptSize, memorySize, rowPlace, lengthPlace}
+use Rattle.memory.specs.Layout.{markPlace, topPlace, tagPlace, listPlace, requestTagPlace, requestPlace, keptPlace}
 use Rattle.memory.specs.Marks.{withMarks}
-use Rattle.memory.specs.Memory.{taggedEntry, isMarked, keyRoom, rowName, rowEntry, payloadLength, payloadPlace, valueAt, rowIn, rowsIn, roomName, requestIn, requestsIn, keptIn, memoryOf, withRows, requestsPut, keptPut}
+use Rattle.memory.specs.Memory.{taggedEntry, isMarked, keyRoom, rowName, rowEntry, payloadLength, payloadPlace, valueAt, rowIn, rowsIn, roomName}
+use Rattle.memory.specs.Memory.{requestIn, requestsIn, keptIn, memoryOf, withRows, requestsPut, keptPut}
 -- what holds of any list
 pub use Rattle.laws.proofs.Frames.{put-other, put-inside}
 pub use Rattle.laws.proofs.TableLaws.{table-same, table-set, table-get, table-length}
@@ -65,7 +67,13 @@ module _ (a b : ℕ) (s t : List ℕ) (same : Same a b s t) where
 
   pub field4-same : (at : ℕ) → a ≤ at → at + 4 ≤ b → field4 s at ≡ field4 t at
   field4-same at h g =
-      rw (one at (omega arith) (omega arith), one (at + 1) (omega arith) (omega arith), one (at + 2) (omega arith) (omega arith), one (at + 3) (omega arith) (omega arith))
+      rw (
+        one at (omega arith) (omega arith),
+        one (at + 1) (omega arith) (omega arith),
+        one (at + 2) (omega arith) (omega arith),
+        one (at + 3) (omega arith)
+            (omega arith),
+      )
 
   pub part-same : (at n : ℕ) → a ≤ at → at + n ≤ b → part s at n ≡ part t at n
   part-same at n h g = part-octets s t at n (same .size) (λ j e f. one j (omega arith) (omega arith))
@@ -84,12 +92,14 @@ pub entry-same : (i : ℕ) (s t : List ℕ) → octet s (lengthPlace i) ≡ octe
     → rowName s i ≡ rowName t i → rowEntry s i ≡ rowEntry t i
 entry-same i s t l g n = λ z. taggedEntry (g z) (n z)
 
-name-same : (i : ℕ) (s t : List ℕ) → Same (rowPlace i) (rowPlace i + rowSize) s t → octet s (lengthPlace i) ≡ octet t (lengthPlace i) → rowName s i ≡ rowName t i
+name-same : (i : ℕ) (s t : List ℕ) → Same (rowPlace i) (rowPlace i + rowSize) s t → octet s (lengthPlace i) ≡ octet t (lengthPlace i) → rowName s i
+    ≡ rowName t i
 name-same i s t h l =
     part-same (rowPlace i) (rowPlace i + rowSize) s t h (rowPlace i + namePlace) (keyRoom s i + idLength) (omega arith) (omega arith)
     ∙ ap (λ n. part t (rowPlace i + namePlace) (min n keyMost + idLength)) l
 
-value-same : (i : ℕ) (s t : List ℕ) → Same (rowPlace i) (rowPlace i + rowSize) s t → octet s (lengthPlace i) ≡ octet t (lengthPlace i) → octet s (topPlace i) ≡ octet t (topPlace i)
+value-same : (i : ℕ) (s t : List ℕ) → Same (rowPlace i) (rowPlace i + rowSize) s t → octet s (lengthPlace i) ≡ octet t (lengthPlace i)
+    → octet s (topPlace i) ≡ octet t (topPlace i)
     → valueAt s i ≡ valueAt t i
 value-same i s t h l p =
     let at : ℕ = rowPlace i in
@@ -120,7 +130,8 @@ row-but-marks i s t b h l m p g =
     let value = value-same i t s h l p in
     (λ z. pick (eqb (l z) 0) free (used (entry z) (value z) (isMarked (m z)))) ∙ by (eqb (octet s (lengthPlace i)) 0)
   where
-    by : (x : Bool) → pick x free (used (rowEntry s i) (valueAt s i) (isMarked b)) ≡ withMarks (isMarked b) (pick x free (used (rowEntry s i) (valueAt s i) (isMarked (octet s (markPlace i)))))
+    by : (x : Bool) → pick x free (used (rowEntry s i) (valueAt s i) (isMarked b))
+        ≡ withMarks (isMarked b) (pick x free (used (rowEntry s i) (valueAt s i) (isMarked (octet s (markPlace i)))))
     by true = refl
     by false = refl
 
@@ -218,7 +229,8 @@ unfolding requestsIn
 requests-same s t k h =
     let n = field2-same (listPlace k) (listPlace k + listSize) s t h (listPlace k) (omega arith) (omega arith) in
     let all = table-same (requestIn s k) (requestIn t k) requestsMost
-    (λ i g. request-same s t k i (h .octets (requestTagPlace k i) (omega arith) (omega arith)) (same-within (requestPlace k i) (requestPlace k i + requestSize) (omega arith) (omega arith) h)) in
+    (λ i g. request-same s t k i (h .octets (requestTagPlace k i) (omega arith) (omega arith))
+    (same-within (requestPlace k i) (requestPlace k i + requestSize) (omega arith) (omega arith) h)) in
     λ z. take (n z) (all z)
 
 pub kept-same : (s t : List ℕ) (k : ℕ) → Same (keptPlace k) (keptPlace k + keptSize) s t → keptIn s k ≡ keptIn t k

@@ -59,7 +59,8 @@ module _ (s : List ℕ) where
   or-assoc true b c = refl
   or-assoc false b c = refl
 
-  pub marks-more : (i all x all′ : ℕ) → i < rowsMost → MarksTo i all → x ≡ pick (eqb (octet s (lengthPlace i)) 0) 0 (octet s (markPlace i)) → all′ ≡ bitOr all x → MarksTo (i + 1) all′
+  pub marks-more : (i all x all′ : ℕ) → i < rowsMost → MarksTo i all → x ≡ pick (eqb (octet s (lengthPlace i)) 0) 0 (octet s (markPlace i)) → all′
+      ≡ bitOr all x → MarksTo (i + 1) all′
   marks-more i all x all′ h m e f =
       let n : length (rowsIn s) ≡ rowsMost = rows-length s in
       record {
@@ -84,7 +85,8 @@ module _ (s : List ℕ) where
       λ k. sym (m .marks k ∙ ap (λ l. isMarked all k || has (waitsFor k) l) (drop-of-length-le (rowsIn s) {i = i} (omega arith)) ∙ or-none (isMarked all k))
 
 -- ---- an octet of marks put in place
-pub as-changed : (f : Row → Row) (s t : List ℕ) (i : ℕ) → i < rowsMost → memoryOf t ≡ withRows (set (rowsIn s) i (f (rowIn s i))) (memoryOf s) → memoryOf t ≡ changedAt f i s
+pub as-changed : (f : Row → Row) (s t : List ℕ) (i : ℕ) → i < rowsMost → memoryOf t ≡ withRows (set (rowsIn s) i (f (rowIn s i))) (memoryOf s) → memoryOf t
+    ≡ changedAt f i s
 as-changed f s t i h e = e ∙ ap (λ (r : Row). withRows (set (rowsIn s) i (f r)) (memoryOf s)) (sym (row-get s i h))
 
 pub marks-put : (s : List ℕ) (i b : ℕ) → i < rowsMost → length s ≡ memorySize → memoryOf (set s (markPlace i) b) ≡ changedAt (withMarks (isMarked b)) i s
@@ -134,10 +136,12 @@ module _ (s : List ℕ) (i : ℕ) (h : i < rowsMost) where
     replied-newer t = at-case s i h (λ r. replied k number r ≡ r) refl (rw (ap (newer number) (sym e) ∙ t))
 
     pub replied-older : newer number held ≡ false → newer held number ≡ true → replied k number (rowAt (rowsIn s) i) ≡ rowAt (rowsIn s) i
-    replied-older f t = at-case s i h (λ r. replied k number r ≡ r) refl (rw (ap (newer number) (sym e) ∙ f, ap (λ (x : CsaNumber). newer x number) (sym e) ∙ t))
+    replied-older f t = at-case s i h (λ r. replied k number r
+        ≡ r) refl (rw (ap (newer number) (sym e) ∙ f, ap (λ (x : CsaNumber). newer x number) (sym e) ∙ t))
 
     pub replied-same : newer number held ≡ false → newer held number ≡ false → unmarked k (rowAt (rowsIn s) i) ≡ replied k number (rowAt (rowsIn s) i)
-    replied-same f g = at-case s i h (λ r. unmarked k r ≡ replied k number r) refl (rw (ap (newer number) (sym e) ∙ f, ap (λ (x : CsaNumber). newer x number) (sym e) ∙ g))
+    replied-same f g = at-case s i h (λ r. unmarked k r ≡ replied k number r) refl
+        (rw (ap (newer number) (sym e) ∙ f, ap (λ (x : CsaNumber). newer x number) (sym e) ∙ g))
 
     -- so the numbers do not differ
     pub not-differing : newer number held ≡ false → newer held number ≡ false

@@ -76,7 +76,8 @@ module _ (name : List ℕ) where
     tagged-end n = ap (λ (b : Bool). picked b .key ++ picked b .originator) (sym (ne-eqb tag (tagOf name) n))
 
 -- a name made of a key and an originator
-pub named-entry : (key originator name : List ℕ) → length originator ≡ idLength → name ≡ key ++ originator → entryNamed name ≡ record { key = key; originator = originator }
+pub named-entry : (key originator name : List ℕ) → length originator ≡ idLength → name ≡ key ++ originator → entryNamed name
+    ≡ record { key = key; originator = originator }
 named-entry key originator name n e =
     let l : length name ≡ length key + length originator = ap length e ∙ length-append key originator in
     let k : length name - idLength ≡ length key = omega arith in
@@ -91,4 +92,6 @@ pub name-octets : (zeros key originator : List ℕ) → length zeros ≡ 20 → 
 name-octets zeros key originator z k o =
     let n : length (key ++ originator) ≡ length key + length originator = length-append key originator in
     let at : length key ≡ 0 + length key = omega arith in
-    ap (λ (a : ℕ). take (length key + 4) (putAt (putAt zeros 0 key) a originator)) at ∙ ap (take (length key + 4)) (put-put zeros 0 key originator (omega arith)) ∙ ap (take (length key + 4)) (put-zero zeros (key ++ originator)) ∙ take-written (key ++ originator) zeros (length key + 4) (omega arith)
+    ap (λ (a : ℕ). take (length key + 4) (putAt (putAt zeros 0 key) a originator)) at
+    ∙ ap (take (length key + 4)) (put-put zeros 0 key originator (omega arith)) ∙ ap (take (length key + 4)) (put-zero zeros (key ++ originator))
+    ∙ take-written (key ++ originator) zeros (length key + 4) (omega arith)

@@ -29,7 +29,8 @@ has-more p q f [] h = absurd (false≢true h)
 has-more p q f (y ∷ l) h = more-by (p y) (has p l) (q y) (has q l) (f y) (has-more p q f l) h
 
 module _ (s : List ℕ) (k c i : ℕ) (q : i < rowsMost) (t : waitsFor k (rowAt (rowsIn s) i) ≡ true) where
-  nearer-by : (l : List ℕ) → isPicked i l ≡ false → (has (λ y. eqb y (c + far c i)) l ≡ true) ⊎ (4 + far (behind c l % rowsMost) i ≤ far c i) → 4 + far (behind c l % rowsMost) i ≤ far c i
+  nearer-by : (l : List ℕ) → isPicked i l ≡ false → (has (λ y. eqb y (c + far c i)) l ≡ true) ⊎ (4 + far (behind c l % rowsMost) i ≤ far c i)
+      → 4 + far (behind c l % rowsMost) i ≤ far c i
   nearer-by l n (inl h) =
       let f : (y : ℕ) → eqb y (c + far c i) ≡ true → eqb (y % rowsMost) i ≡ true =
       λ y e. eq-eqb (y % rowsMost) i (ap (λ (x : ℕ). x % rowsMost) (eqb-true y (c + far c i) e) ∙ far-row c i q) in
@@ -38,7 +39,8 @@ module _ (s : List ℕ) (k c i : ℕ) (q : i < rowsMost) (t : waitsFor k (rowAt 
 
   -- a call from row c on
   pub nearer : (p : Picks) → Picked c (nextWaiting (rowsIn s) k c) p → isPicked i (picksOf p) ≡ false → 4 + far (behind c (picksOf p) % rowsMost) i ≤ far c i
-  nearer p e n = nearer-by (picksOf p) n (subst (λ l. (has (λ y. eqb y (c + far c i)) l ≡ true) ⊎ (4 + far (behind c l % rowsMost) i ≤ far c i)) (sym (e .chosen)) (reached-or-nearer (rowsIn s) k c i q t))
+  nearer p e n = nearer-by (picksOf p) n (subst (λ l. (has (λ y. eqb y (c + far c i)) l ≡ true) ⊎ (4 + far (behind c l % rowsMost) i ≤ far c i))
+      (sym (e .chosen)) (reached-or-nearer (rowsIn s) k c i q t))
 
 -- ---- calls in a row, each from the cursor after the one before, and each on a memory in which row i waits: all leave row i out
 pub record Call : Type 0 where
@@ -48,7 +50,8 @@ pub record Call : Type 0 where
 abbrev pub LeftOut : ℕ → ℕ → ℕ → List Call → Type 0
 LeftOut k i c [] = Unit {0}
 LeftOut k i c (x ∷ xs) =
-    ((waitsFor k (rowAt (rowsIn (x .memory)) i) ≡ true) × (Picked c (nextWaiting (rowsIn (x .memory)) k c) (x .picks) × (isPicked i (picksOf (x .picks)) ≡ false)))
+    ((waitsFor k (rowAt (rowsIn (x .memory)) i) ≡ true) × (Picked c (nextWaiting (rowsIn (x .memory)) k c) (x .picks) ×
+    (isPicked i (picksOf (x .picks)) ≡ false)))
     × LeftOut k i (behind c (picksOf (x .picks)) % rowsMost) xs
 
 one-more : (n f g : ℕ) → n * 4 ≤ f → 4 + f ≤ g → suc n * 4 ≤ g

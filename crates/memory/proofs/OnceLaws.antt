@@ -17,7 +17,8 @@ use Rattle.protocol.specs.Messages.{CsaRecord}
 use Rattle.rules.specs.Server.{Entry, Value, Row, free, used, isFree, holds, sameEntry, rowAt}
 use Rattle.rules.specs.Rows.{isPurged, anySlot, unmarked, spread, sweptRow, swept, filled}
 use Rattle.rules.specs.Requests.{entryOf}
-use Rattle.rules.specs.Updates.{hopsMost, value, changedRow, purgedRow, setRows, withdrawRows, purgeRows, UpdateRule, null, purgeAbsent, full, stored, equal, older, valueOf, renewed, waitsAgain, rowsBy, replied}
+use Rattle.rules.specs.Updates.{hopsMost, value, changedRow, purgedRow, setRows, withdrawRows, purgeRows, UpdateRule, null, purgeAbsent, full, stored}
+use Rattle.rules.specs.Updates.{equal, older, valueOf, renewed, waitsAgain, rowsBy, replied}
 use Rattle.rules.specs.Demand3.{Once}
 use Rattle.rules.proofs.Entries.{entry-true, entry-refl}
 use Rattle.memory.specs.declared.rows.Found.{Found}
@@ -127,7 +128,8 @@ keeps-owed : (k : ℕ) → Keeps (waitsAgain k)
 keeps-owed k e free h = h
 keeps-owed k e (used f v m) h = h
 
-pick-same : (e f : Entry) (v : Value) (m n : ℕ → Bool) (a b : Bool) → holds e (pick a (used f v m) (pick b (used f v m) (used f v n))) ≡ true → sameEntry f e ≡ true
+pick-same : (e f : Entry) (v : Value) (m n : ℕ → Bool) (a b : Bool) → holds e (pick a (used f v m) (pick b (used f v m) (used f v n))) ≡ true
+    → sameEntry f e ≡ true
 pick-same e f v m n true b h = h
 pick-same e f v m n false true h = h
 pick-same e f v m n false false h = h
@@ -168,7 +170,8 @@ module _ (rows : List Row) (once : Once rows) where
 
   -- `set_entry`, `withdraw_entry`, `purge_entry`
   pub once-set-rows : (live : ℕ → Bool) (e : Entry) (payload : List ℕ) → Once (setRows live e payload rows)
-  once-set-rows live e payload = once-put e (value firstNumber payload hopsMost) live (changedRow live payload) (keeps-changed live payload) (has (holds e) rows) refl
+  once-set-rows live e payload = once-put e (value firstNumber payload hopsMost) live (changedRow live payload) (keeps-changed live payload)
+      (has (holds e) rows) refl
 
   pub once-withdrawn : (live : ℕ → Bool) (e : Entry) → Once (withdrawRows live e rows)
   once-withdrawn live e = once-changed (holds e) (changedRow live []) (keeps-changed live []) rows once

@@ -44,7 +44,8 @@ module _ (p : ℕ → Bool) (most : ℕ) (all rows : List ℕ) (count : ℕ) whe
   pub go-full : (left at : ℕ) → count ≡ most → Going left at → take count rows ≡ all
   go-full left at e g =
       let z : most - count ≡ 0 = omega arith in
-      sym (g ∙ ap (λ (n : ℕ). take count rows ++ next p left n at) z ∙ ap (λ (l : List ℕ). take count rows ++ l) (next-none p left at) ∙ append-nil (take count rows))
+      sym (g ∙ ap (λ (n : ℕ). take count rows ++ next p left n at) z ∙ ap (λ (l : List ℕ). take count rows ++ l) (next-none p left at)
+      ∙ append-nil (take count rows))
 
   go-miss : (left at : ℕ) → p at ≡ false → Going (suc left) at → Going left (suc at)
   go-miss left at m g = g ∙ ap (λ (l : List ℕ). take count rows ++ l) (next-miss p left at (most - count) m)
@@ -78,9 +79,11 @@ pub record Gone (p : ℕ → Bool) (most from : ℕ) (all rows : List ℕ) (coun
 -- a turn: the row at hand is chosen, or passed over
 abbrev pub Turned : Bool → List ℕ → List ℕ → ℕ → ℕ → ℕ → ℕ → ℕ → Type 0
 Turned b rows rows′ count count′ onward onward′ at =
-    ((b ≡ true) × ((rows′ ≡ set rows count at) × ((count′ ≡ count + 1) × (onward′ ≡ at + 1)))) ⊎ ((b ≡ false) × ((rows′ ≡ rows) × ((count′ ≡ count) × (onward′ ≡ onward))))
+    ((b ≡ true) × ((rows′ ≡ set rows count at) × ((count′ ≡ count + 1) × (onward′ ≡ at + 1)))) ⊎
+    ((b ≡ false) × ((rows′ ≡ rows) × ((count′ ≡ count) × (onward′ ≡ onward))))
 
-module _ (p : ℕ → Bool) (most from : ℕ) (all rows rows′ : List ℕ) (count count′ onward onward′ left at : ℕ) (n : count ≡ most → ⊥) (g : Gone p most from all rows count onward (suc left) at) where
+module _ (p : ℕ → Bool) (most from : ℕ) (all rows rows′ : List ℕ) (count count′ onward onward′ left at : ℕ) (n : count ≡ most → ⊥)
+    (g : Gone p most from all rows count onward (suc left) at) where
   go-by : Turned (p at) rows rows′ count count′ onward onward′ at → Gone p most from all rows′ count′ onward′ left (suc at)
   go-by (inl (m, (a, (b, d)))) =
       let few : count ≤ most = g .few in
@@ -89,7 +92,8 @@ module _ (p : ℕ → Bool) (most from : ℕ) (all rows rows′ : List ℕ) (cou
       record {
         few = omega arith;
         full = ap length a ∙ length-set rows count at ∙ g .full;
-        going = go-hit p most all rows count left at (omega arith) (g .full) m (g .going) ∙ (λ z. take (sym e z) (sym a z) ++ next p left (most - sym e z) (suc at));
+        going = go-hit p most all rows count left at (omega arith) (g .full) m (g .going)
+            ∙ (λ z. take (sym e z) (sym a z) ++ next p left (most - sym e z) (suc at));
         last = d ∙ add-one at ∙ sym (behind-set from count at rows long) ∙ (λ z. behind from (take (sym e z) (sym a z)));
       }
   go-by (inr (m, (a, (b, d)))) =
@@ -103,7 +107,8 @@ module _ (p : ℕ → Bool) (most from : ℕ) (all rows rows′ : List ℕ) (cou
 
 -- the same, as the code counts
 pub go-on : (p : ℕ → Bool) (most from : ℕ) (all rows rows′ : List ℕ) (count count′ onward onward′ left left′ at : ℕ) → (count ≡ most → ⊥) → left ≡ suc left′
-    → Gone p most from all rows count onward left at → Turned (p at) rows rows′ count count′ onward onward′ at → Gone p most from all rows′ count′ onward′ left′ (at + 1)
+    → Gone p most from all rows count onward left at → Turned (p at) rows rows′ count count′ onward onward′ at
+    → Gone p most from all rows′ count′ onward′ left′ (at + 1)
 go-on p most from all rows rows′ count count′ onward onward′ left left′ at n l g t =
     subst (λ (x : ℕ). Gone p most from all rows′ count′ onward′ left′ x) (sym (add-one at))
     (go-by p most from all rows rows′ count count′ onward onward′ left′ at n (subst (λ (x : ℕ). Gone p most from all rows count onward x at) l g) t)
@@ -141,5 +146,6 @@ next-empty p h (suc left) n at = next-miss p left at n (h at) ∙ next-empty p h
 pub picked-none : (rows : List Row) (k from : ℕ) (cells : List ℕ) → length cells ≡ 4 → has (waitsFor k) rows ≡ false
     → Picked from (nextWaiting rows k from) (record { count = 0; rows = cells; next = from })
 picked-none rows k from cells n h =
-    let e : nextWaiting rows k from ≡ [] = next-empty (λ i. waitsFor k (rowAt rows (i % rowsMost))) (λ j. has-false free (waitsFor k) refl rows h (j % rowsMost)) rowsMost 4 from in
+    let e : nextWaiting rows k from ≡ [] = next-empty (λ i. waitsFor k (rowAt rows (i % rowsMost)))
+    (λ j. has-false free (waitsFor k) refl rows h (j % rowsMost)) rowsMost 4 from in
     record { chosen = sym e; onward = sym (ap (behind from) e); few = omega arith; full = n }

@@ -74,7 +74,8 @@ module _ {A : Type 0} (p : A → Bool) (d : A) where
   placed [] h = absurd (omega arith)
   placed (x ∷ l) h = placed-by x l (placed l) (p x) refl h
 
-  nowhere-by : (x : A) (l : List A) → (length l ≤ indexOf p l → has p l ≡ false) → (b : Bool) → suc (length l) ≤ pick b 0 (suc (indexOf p l)) → (b || has p l) ≡ false
+  nowhere-by : (x : A) (l : List A) → (length l ≤ indexOf p l → has p l ≡ false) → (b : Bool) → suc (length l) ≤ pick b 0 (suc (indexOf p l))
+      → (b || has p l) ≡ false
   nowhere-by x l ih true h = absurd (omega arith)
   nowhere-by x l ih false h = ih (omega arith)
 

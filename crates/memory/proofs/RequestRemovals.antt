@@ -69,7 +69,8 @@ stayed : (b : Bool) (i w r : ℕ) → w ≤ i → r ≡ pick b w (suc w) → r �
 stayed true i w r h e f = absurd (omega arith)
 stayed false i w r h e f = omega arith
 
-pub removing-more : (k : ℕ) (p : Request → Bool) (i w r : ℕ) (s t u : List ℕ) → i < 64 → Removing k p i w s t → Removes k p i w t u r → Removing k p (i + 1) r s u
+pub removing-more : (k : ℕ) (p : Request → Bool) (i w r : ℕ) (s t u : List ℕ) → i < 64 → Removing k p i w s t → Removes k p i w t u r
+    → Removing k p (i + 1) r s u
 removing-more k p i w r s t u h so q =
     let a = removed-more p noRequest (roomsIn s k) (roomsIn t k) i w (omega (arith, rooms-length s k)) (so .rooms) in
     let still = stayed (p (getD (roomsIn t k) i noRequest)) i w r (so .rooms .under) (q .next) in

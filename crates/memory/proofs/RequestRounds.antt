@@ -18,7 +18,8 @@ use Rattle.rules.specs.Requests.{asks, raised, join, acknowledged, dropped, rot
 use Rattle.rules.proofs.Entries.{entry-true}
 use Rattle.memory.specs.Lists.{noRequest, indexOf}
 use Rattle.memory.proofs.RequestLists.{nowhere}
-use Rattle.memory.proofs.RequestLaws.{OneEach, acknowledged-one, dropped-one, join-one, join-list, rotated-one, rotated-perm, none-left, within-short, acknowledged-order, dropped-order}
+use Rattle.memory.proofs.RequestLaws.{OneEach, acknowledged-one, dropped-one, join-one, join-list, rotated-one, rotated-perm, none-left}
+use Rattle.memory.proofs.RequestLaws.{within-short, acknowledged-order, dropped-order}
 
 -- ---- what happens to a request list
 -- `joins` has the number of those missed so far

@@ -70,7 +70,8 @@ module _ (s : List ℕ) (k n i : ℕ) (name : List ℕ) (long : n ≡ length (re
   abbrev pub Looked : Type 0
   Looked = Passed (asks (entryNamed name)) noRequest (requestsIn s k) i
 
-  pub find-from : (t at : ℕ) → k < 8 → length s ≡ memorySize → 4 < length name → t ≡ tagOf name → n ≤ 64 → at ≡ requestTagPlace k 0 → FirstOctet s at t i → Looked
+  pub find-from : (t at : ℕ) → k < 8 → length s ≡ memorySize → 4 < length name → t ≡ tagOf name → n ≤ 64 → at ≡ requestTagPlace k 0 → FirstOctet s at t i
+      → Looked
   find-from t at slot size four own most place f j g h =
       let p : requestPlace k j + requestSize ≤ length s = omega arith in
       let q : at + j ≡ requestTagPlace k j = omega arith in
@@ -166,7 +167,8 @@ module _ (s : List ℕ) (k : ℕ) (slot : k < 8) (e : Entry) (n : CsaNumber) (mi
       record {
         list = b ∙ ap (λ (z : List Request). requestsPut k z (memoryOf s)) (a ∙ sym (ap (λ (w : Wanted). w .requests) f));
         count = sym (ap (λ (w : Wanted). w .missed) f);
-        kept = λ none most. d (ap (has (asks e)) (sym (requests-of s k slot)) ∙ none) (ap (λ (z : List Request). ltb (length z) 64) (sym (requests-of s k slot)) ∙ most);
+        kept = λ none most. d (ap (has (asks e)) (sym (requests-of s k slot)) ∙ none)
+            (ap (λ (z : List Request). ltb (length z) 64) (sym (requests-of s k slot)) ∙ most);
       }
 
   pub join-found : (t : List ℕ) → i < m

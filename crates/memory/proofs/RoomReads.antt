@@ -131,5 +131,6 @@ pub raised-not : (s : List ℕ) (k i : ℕ) (n : CsaNumber) → k < 8 → newer 
     → Listed k (field2 s (listPlace k)) (set (roomsIn s k) i (raised n (getD (roomsIn s k) i noRequest))) s s
 raised-not s k i n slot h =
     subst (λ (l : List Request). Listed k (field2 s (listPlace k)) l s s)
-    (sym (ap (set (roomsIn s k) i) (sym (raised-older (getD (roomsIn s k) i noRequest .entry) n (getD (roomsIn s k) i noRequest) h)) ∙ set-getD (roomsIn s k) i noRequest))
+    (sym (ap (set (roomsIn s k) i) (sym (raised-older (getD (roomsIn s k) i noRequest .entry) n (getD (roomsIn s k) i noRequest) h))
+    ∙ set-getD (roomsIn s k) i noRequest))
     (listed-none s k slot)

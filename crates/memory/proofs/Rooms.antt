@@ -19,7 +19,8 @@ use Rattle.memory.specs.Layout.{requestSize, listSize, memorySize, listP
 use Rattle.memory.specs.Memory.{taggedEntry, roomName, requestIn, requestsIn, memoryOf, requestsPut, requestsOf}
 use Rattle.memory.specs.Lists.{requestOf, roomsIn, noRequest, Listed}
 use Rattle.memory.proofs.NameLaws.{tagged-originator}
-use Rattle.memory.proofs.Frame.{Same, same-trans, set-before, set-behind, put-other, part-same, put-inside, put-before, put-behind, same-refl, field2-same, table-same, table-set, table-get, table-length, request-same, list-changed}
+use Rattle.memory.proofs.Frame.{Same, same-trans, set-before, set-behind, put-other, part-same, put-inside, put-before, put-behind, same-refl}
+use Rattle.memory.proofs.Frame.{field2-same, table-same, table-set, table-get, table-length, request-same, list-changed}
 
 -- ---- parts
 pub drop-take : {A : Type 0} (i n : ℕ) (l : List A) → drop i (take (i + n) l) ≡ take n (drop i l)

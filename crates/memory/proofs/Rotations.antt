@@ -55,7 +55,8 @@ module _ (s : List ℕ) (at by : ℕ) where
   moved-more m i h e = ap (λ (l : List ℕ). set l (at + i) (octet l (at + by + i))) e ∙ moved-one i h
 
   -- and the others behind them
-  pub rotated-octets : (n m : ℕ) (q t u : List ℕ) → m ≡ n - by → by ≤ n → at + n ≤ length s → q ≡ part s at by → t ≡ moved m → u ≡ putAt t (at + m) q → u ≡ rotatedAt at n by s
+  pub rotated-octets : (n m : ℕ) (q t u : List ℕ) → m ≡ n - by → by ≤ n → at + n ≤ length s → q ≡ part s at by → t ≡ moved m → u ≡ putAt t (at + m) q → u
+      ≡ rotatedAt at n by s
   rotated-octets n m q t u e h g p f k =
       let w : List ℕ = part s (at + by) m in
       let l : length w ≡ m = part-length s (at + by) m (omega arith) in
@@ -103,14 +104,16 @@ module _ (s : List ℕ) (at n by : ℕ) (h : by ≤ n) (g : at + n ≤ length s)
       ∙ getD-append-add back (part s at by) x 0 ∙ octet-part s at by x k ∙ ap (octet s) (sym f)
 
 -- ---- a request whose octets came from another room
-part-moved : (s t : List ℕ) (at to n : ℕ) → to + n ≤ length t → at + n ≤ length s → ((o : ℕ) → o < n → octet t (to + o) ≡ octet s (at + o)) → part t to n ≡ part s at n
+part-moved : (s t : List ℕ) (at to n : ℕ) → to + n ≤ length t → at + n ≤ length s → ((o : ℕ) → o < n → octet t (to + o) ≡ octet s (at + o)) → part t to n
+    ≡ part s at n
 part-moved s t at to n g h f =
     let a : length (part t to n) ≡ n = part-length t to n g in
     let b : length (part s at n) ≡ n = part-length s at n h in
     ext-getD 0 (part t to n) (part s at n) (a ∙ sym b)
     (λ o l. octet-part t to n o (omega arith) ∙ f o (omega arith) ∙ sym (octet-part s at n o (omega arith)))
 
-request-moved : (s t : List ℕ) (k i j : ℕ) → requestPlace k j + 28 ≤ length t → requestPlace k i + 28 ≤ length s → octet t (requestTagPlace k j) ≡ octet s (requestTagPlace k i)
+request-moved : (s t : List ℕ) (k i j : ℕ) → requestPlace k j + 28 ≤ length t → requestPlace k i + 28 ≤ length s → octet t (requestTagPlace k j)
+    ≡ octet s (requestTagPlace k i)
     → ((o : ℕ) → o < 28 → octet t (requestPlace k j + o) ≡ octet s (requestPlace k i + o)) → requestIn t k j ≡ requestIn s k i
 request-moved s t k i j g h e f =
     sym (request-of t k j) ∙ (λ z. requestOf (e z) (part-moved s t (requestPlace k i) (requestPlace k j) 28 g h f z)) ∙ request-of s k i
@@ -139,10 +142,12 @@ module _ (s : List ℕ) (k n : ℕ) (slot : k < 8) (some : 4 < n) (most : n ≤ 
   outside : (j : ℕ) → (j < tags-at) ⊎ (rooms-at + n * 28 ≤ j) → octet t j ≡ octet s j
   outside j (inl e) =
       let a = u-size in
-      rotated-other u tags-at n 4 (omega arith) (omega arith) j (inl e) ∙ rotated-other s rooms-at (n * 28) 112 (omega arith) (omega arith) j (inl (omega arith))
+      rotated-other u tags-at n 4 (omega arith) (omega arith) j (inl e)
+      ∙ rotated-other s rooms-at (n * 28) 112 (omega arith) (omega arith) j (inl (omega arith))
   outside j (inr e) =
       let a = u-size in
-      rotated-other u tags-at n 4 (omega arith) (omega arith) j (inr (omega arith)) ∙ rotated-other s rooms-at (n * 28) 112 (omega arith) (omega arith) j (inr e)
+      rotated-other u tags-at n 4 (omega arith) (omega arith) j (inr (omega arith))
+      ∙ rotated-other s rooms-at (n * 28) 112 (omega arith) (omega arith) j (inr e)
 
   request-front : (j : ℕ) → j + 4 < n → requestIn t k j ≡ requestIn s k (4 + j)
   request-front j h =
@@ -152,7 +157,8 @@ module _ (s : List ℕ) (k n : ℕ) (slot : k < 8) (some : 4 < n) (most : n ≤ 
       (rotated-front u tags-at n 4 (omega arith) (omega arith) j (requestTagPlace k j) (requestTagPlace k (4 + j)) (omega arith) (omega arith) (omega arith)
       ∙ rotated-other s rooms-at (n * 28) 112 (omega arith) (omega arith) (requestTagPlace k (4 + j)) (inl (omega arith)))
       (λ o l. rotated-other u tags-at n 4 (omega arith) (omega arith) (requestPlace k j + o) (inr (omega arith))
-      ∙ rotated-front s rooms-at (n * 28) 112 (omega arith) (omega arith) (j * 28 + o) (requestPlace k j + o) (requestPlace k (4 + j) + o) (omega arith) (omega arith) (omega arith))
+      ∙ rotated-front s rooms-at (n * 28) 112 (omega arith) (omega arith) (j * 28 + o) (requestPlace k j + o) (requestPlace k (4 + j) + o) (omega arith)
+      (omega arith) (omega arith))
 
   request-end : (j e : ℕ) → e < 4 → j ≡ n - 4 + e → requestIn t k j ≡ requestIn s k e
   request-end j e h f =
@@ -162,7 +168,8 @@ module _ (s : List ℕ) (k n : ℕ) (slot : k < 8) (some : 4 < n) (most : n ≤ 
       (rotated-end u tags-at n 4 (omega arith) (omega arith) e (requestTagPlace k j) (requestTagPlace k e) (omega arith) (omega arith) h
       ∙ rotated-other s rooms-at (n * 28) 112 (omega arith) (omega arith) (requestTagPlace k e) (inl (omega arith)))
       (λ o l. rotated-other u tags-at n 4 (omega arith) (omega arith) (requestPlace k j + o) (inr (omega arith))
-      ∙ rotated-end s rooms-at (n * 28) 112 (omega arith) (omega arith) (e * 28 + o) (requestPlace k j + o) (requestPlace k e + o) (omega arith) (omega arith) (omega arith))
+      ∙ rotated-end s rooms-at (n * 28) 112 (omega arith) (omega arith) (e * 28 + o) (requestPlace k j + o) (requestPlace k e + o) (omega arith)
+      (omega arith) (omega arith))
 
   same-front : Same 0 tags-at t s
   same-front = record { size = t-size; octets = λ j g h. outside j (inl h) }
@@ -215,7 +222,8 @@ module _ (s : List ℕ) (k n : ℕ) (slot : k < 8) (some : 4 < n) (most : n ≤ 
         ∙ ap (λ (z : List Request). requestsPut k z (memoryOf s)) (list-rotated ∙ ap rotated (sym (requests-of s k slot)))
 
 -- four or fewer stand as they did
-pub rotate-none : (s : List ℕ) (k n : ℕ) → k < 8 → n ≡ length (requestsIn s k) → n ≤ 4 → memoryOf s ≡ requestsPut k (rotated (requestsOf (memoryOf s) k)) (memoryOf s)
+pub rotate-none : (s : List ℕ) (k n : ℕ) → k < 8 → n ≡ length (requestsIn s k) → n ≤ 4 → memoryOf s
+    ≡ requestsPut k (rotated (requestsOf (memoryOf s) k)) (memoryOf s)
 rotate-none s k n slot long few =
     let l : List Request = requestsIn s k in
     let h : length l ≤ 4 = omega arith in

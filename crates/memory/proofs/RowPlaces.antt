@@ -98,7 +98,8 @@ module _ (s : List ℕ) (i : ℕ) (size : length s ≡ memorySize) (h : i < rows
   module _ (v : List ℕ) (e : v ≡ rowEntry s i .key ++ rowEntry s i .originator) where
     less-four : length v - 4 ≡ length (rowEntry s i .key)
     less-four =
-        let n : length v ≡ length (rowEntry s i .key) + length (rowEntry s i .originator) = ap length e ∙ length-append (rowEntry s i .key) (rowEntry s i .originator) in
+        let n : length v ≡ length (rowEntry s i .key) + length (rowEntry s i .originator) = ap length e
+        ∙ length-append (rowEntry s i .key) (rowEntry s i .originator) in
         let o : length (rowEntry s i .originator) ≡ 4 = originator-long in
         omega arith
 

@@ -24,7 +24,8 @@ use Rattle.rules.specs.Updates.{value}
 use Rattle.memory.specs.Layout.{namePlace, rowSize, memorySize, rowPlace, lengthPlace, markPlace, topPlace, tagPlace}
 use Rattle.memory.specs.Memory.{taggedEntry, isMarked, keyRoom, rowName, rowEntry, bitsAt, payloadLength, payloadPlace, valueAt, rowIn, memoryOf}
 use Rattle.memory.specs.Search.{rowHead, headPut, valuePut, withRow, revalued}
-use Rattle.memory.proofs.Frame.{Same, put-inside, put-before, put-behind, set-before, same-trans, same-within, part-same, OnlyRow, only-trans, only-marks, only-top, only-body, only-row}
+use Rattle.memory.proofs.Frame.{Same, put-inside, put-before, put-behind, set-before, same-trans, same-within, part-same, OnlyRow, only-trans}
+use Rattle.memory.proofs.Frame.{only-marks, only-top, only-body, only-row}
 
 pub short-min : (a b : ℕ) → a ≤ b → min a b ≡ a
 short-min a b h = omega arith
@@ -123,7 +124,8 @@ module _ (s : List ℕ) (i payload bits remaining marks : ℕ) (size : length s 
       ∙ put-behind s head (rowPlace i) (omega arith) p (p + 1) (omega arith) .octets p (omega arith) (omega arith)
 
 -- ---- a value put into row i
-module _ (s : List ℕ) (i bits remaining marks : ℕ) (payload : List ℕ) (size : length s ≡ memorySize) (h : i < rowsMost) (short : length payload ≤ payloadMost) where
+module _ (s : List ℕ) (i bits remaining marks : ℕ) (payload : List ℕ) (size : length s ≡ memorySize) (h : i < rowsMost)
+    (short : length payload ≤ payloadMost) where
   abbrev headed : List ℕ
   headed = headPut i (length payload) bits remaining marks s
 
@@ -157,10 +159,12 @@ module _ (s : List ℕ) (i bits remaining marks : ℕ) (payload : List ℕ) (siz
   payload-octet = let z : rowPlace i ≡ rowPlace i + 0 = omega arith in ap (octet valued) z ∙ first 0 (omega arith)
 
   length-kept : octet valued (lengthPlace i) ≡ octet s (lengthPlace i)
-  length-kept = section (lengthPlace i) (omega arith) ∙ head-other s i (length payload) bits remaining marks size h (lengthPlace i) (omega arith) (λ q. omega arith) (λ q. omega arith)
+  length-kept = section (lengthPlace i) (omega arith)
+      ∙ head-other s i (length payload) bits remaining marks size h (lengthPlace i) (omega arith) (λ q. omega arith) (λ q. omega arith)
 
   tag-kept : octet valued (tagPlace i) ≡ octet s (tagPlace i)
-  tag-kept = section (tagPlace i) (omega arith) ∙ head-other s i (length payload) bits remaining marks size h (tagPlace i) (omega arith) (λ q. omega arith) (λ q. omega arith)
+  tag-kept = section (tagPlace i) (omega arith) ∙ head-other s i (length payload) bits remaining marks size h (tagPlace i) (omega arith) (λ q. omega arith)
+      (λ q. omega arith)
 
   place-kept : payloadPlace valued i ≡ place
   place-kept = ap (λ n. rowPlace i + namePlace + min n keyMost + idLength) length-kept
@@ -200,8 +204,10 @@ module _ (s : List ℕ) (i bits remaining marks : ℕ) (payload : List ℕ) (siz
       → rowIn valued i ≡ revalued (value number payload remaining) (isMarked marks) (rowIn s i)
   unfolding rowIn
   valued-row number e f =
-      row-of valued i (octet s (lengthPlace i)) (octet s (tagPlace i)) marks 0 _ 0 _ (rowName s i) payload length-kept tag-kept marks-put name-kept bits-put payload-put hops-put
-      ∙ (λ z. pick (eqb (octet s (lengthPlace i)) 0) free (used (rowEntry s i) (record { number = number-back number bits e f z; payload = payload; remaining = hops-back remaining z }) (isMarked marks)))
+      row-of valued i (octet s (lengthPlace i)) (octet s (tagPlace i)) marks 0 _ 0 _ (rowName s i) payload length-kept tag-kept marks-put name-kept bits-put
+      payload-put hops-put
+      ∙ (λ z. pick (eqb (octet s (lengthPlace i)) 0) free (used (rowEntry s i)
+      (record { number = number-back number bits e f z; payload = payload; remaining = hops-back remaining z }) (isMarked marks)))
       ∙ revalue-by number (eqb (octet s (lengthPlace i)) 0)
 
   pub value-put : (number : CsaNumber) (t u : List ℕ) → bits ≡ bitsOf number → SFits w32 (number .0) → t ≡ headed → u ≡ putAt t place payload

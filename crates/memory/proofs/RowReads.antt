@@ -42,7 +42,8 @@ module _ (p : Row → Bool) (s : List ℕ) (from : ℕ) where
 
 -- ---- by the first octet of a section
 -- rows before c do not pass, so a search may start there
-passed : (p : Row → Bool) (s : List ℕ) (c : ℕ) → ((j : ℕ) → j < c → j < rowsMost → p (rowIn s j) ≡ false) → firstFrom p 0 (rowsIn s) ≡ firstFrom p c (drop c (rowsIn s))
+passed : (p : Row → Bool) (s : List ℕ) (c : ℕ) → ((j : ℕ) → j < c → j < rowsMost → p (rowIn s j) ≡ false) → firstFrom p 0 (rowsIn s)
+    ≡ firstFrom p c (drop c (rowsIn s))
 passed p s c h =
     let n : length (rowsIn s) ≡ rowsMost = rows-length s in
     passed-by p (rowsIn s) c (λ j g l. ap p (row-get s j (omega arith)) ∙ h j g (omega arith))

@@ -121,7 +121,8 @@ module _ (s : List ℕ) (i : ℕ) where
   kept-number low n =
       let at : ℕ = rowPlace i in
       let p : isPurged (valueAt s i .number) ≡ false =
-      unpurged (bitsAt s i) (top-octet (octet s (topPlace i)) (octet s (at + 5)) (octet s (at + 6)) (octet s (at + 7)) (low (at + 5)) (low (at + 6)) (low (at + 7)) n) in
+      unpurged (bitsAt s i) (top-octet (octet s (topPlace i)) (octet s (at + 5)) (octet s (at + 6)) (octet s (at + 7)) (low (at + 5)) (low (at + 6))
+      (low (at + 7)) n) in
       by-length (octet s (lengthPlace i)) refl (λ u. told u ∙ ap (λ b. b && not (anySlot (isMarked (octet s (markPlace i))))) p)
 
 -- ---- the first that may be one
@@ -170,13 +171,15 @@ swept-first s r f =
     (sym (front-same (rowsIn s) r (λ j a b. ap toFree (row-get s j (omega arith)) ∙ f j a (omega arith))))
 
 -- ---- row i swept
-pub swept-now : (s t : List ℕ) (i : ℕ) {b : Bool} → b ≡ toFree (rowIn s i) → b ≡ true → memoryOf t ≡ withRow s i free → memoryOf t ≡ withRow s i (sweptRow (rowIn s i))
+pub swept-now : (s t : List ℕ) (i : ℕ) {b : Bool} → b ≡ toFree (rowIn s i) → b ≡ true → memoryOf t ≡ withRow s i free → memoryOf t
+    ≡ withRow s i (sweptRow (rowIn s i))
 swept-now s t i e h m = m ∙ ap (λ (x : Bool). withRow s i (pick x free (rowIn s i))) (sym (sym e ∙ h))
 
 pub swept-not : (s : List ℕ) (i : ℕ) {b : Bool} → i < rowsMost → b ≡ toFree (rowIn s i) → b ≡ false → memoryOf s ≡ withRow s i (sweptRow (rowIn s i))
 unfolding memoryOf
 swept-not s i h e f =
-    ap (λ (rows : List Row). withRows rows (memoryOf s)) (sym (ap (set (rowsIn s) i) (ap (λ (x : Bool). pick x free (rowIn s i)) (sym e ∙ f) ∙ sym (row-get s i h)) ∙ set-getD (rowsIn s) i free))
+    ap (λ (rows : List Row). withRows rows (memoryOf s)) (sym (ap (set (rowsIn s) i)
+    (ap (λ (x : Bool). pick x free (rowIn s i)) (sym e ∙ f) ∙ sym (row-get s i h)) ∙ set-getD (rowsIn s) i free))
 
 -- ---- zeros
 table-all : {A : Type 0} (f : ℕ → A) (x : A) → ((j : ℕ) → f j ≡ x) → (n i : ℕ) → table f n i ≡ replicate n x

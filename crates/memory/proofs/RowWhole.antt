@@ -73,7 +73,8 @@ module _ (s : List ℕ) (i bits remaining marks tag : ℕ) (name payload : List 
   heads : (k : ℕ) → k < 8 → octet whole (rowPlace i + k) ≡ octet (rowHead (length payload) bits remaining) k
   heads k g =
       put-before tag-put (name ++ payload) at whole-room 0 at (omega arith) .octets (rowPlace i + k) (omega arith) (omega arith)
-      ∙ getD-set-other long-put (tagPlace i) (rowPlace i + k) tag 0 (λ q. omega arith) ∙ getD-set-other top-put (lengthPlace i) (rowPlace i + k) key 0 (λ q. omega arith)
+      ∙ getD-set-other long-put (tagPlace i) (rowPlace i + k) tag 0 (λ q. omega arith)
+      ∙ getD-set-other top-put (lengthPlace i) (rowPlace i + k) key 0 (λ q. omega arith)
       ∙ head-octet s i (length payload) bits remaining marks size h k g
 
   payload-first : octet whole (rowPlace i) ≡ length payload
@@ -82,7 +83,8 @@ module _ (s : List ℕ) (i bits remaining marks tag : ℕ) (name payload : List 
   length-new : octet whole (lengthPlace i) ≡ key
   length-new =
       let z = top-size in
-      sections (lengthPlace i) (omega arith) ∙ getD-set-other long-put (tagPlace i) (lengthPlace i) tag 0 (λ q. omega arith) ∙ getD-set-same top-put (lengthPlace i) key 0 (omega arith)
+      sections (lengthPlace i) (omega arith) ∙ getD-set-other long-put (tagPlace i) (lengthPlace i) tag 0 (λ q. omega arith)
+      ∙ getD-set-same top-put (lengthPlace i) key 0 (omega arith)
 
   tag-new : octet whole (tagPlace i) ≡ tag
   tag-new =
@@ -101,7 +103,8 @@ module _ (s : List ℕ) (i bits remaining marks tag : ℕ) (name payload : List 
       let b = both in
       let z : at + 0 ≡ at = omega arith in
       ap (λ n. part whole at (n + idLength)) room-new ∙ ap (part whole at) e
-      ∙ ap (λ a. part whole a (length name)) (sym z) ∙ part-inside tag-put (name ++ payload) at whole-room 0 (length name) (omega arith) ∙ take-append-seam name payload
+      ∙ ap (λ a. part whole a (length name)) (sym z) ∙ part-inside tag-put (name ++ payload) at whole-room 0 (length name) (omega arith)
+      ∙ take-append-seam name payload
 
   payload-new : part whole (payloadPlace whole i) (payloadLength whole i) ≡ payload
   payload-new =
@@ -133,9 +136,11 @@ module _ (s : List ℕ) (i bits remaining marks tag : ℕ) (name payload : List 
       (used (pick (eq-eqb tag (tagOf name) g z) (entryNamed name) (withoutKey (entryNamed name)))
       (record { number = number-back number bits e f z; payload = payload; remaining = hops-back remaining z }) (isMarked marks)))
 
-  pub row-put : (number : CsaNumber) (t u v w : List ℕ) → bits ≡ bitsOf number → SFits w32 (number .0) → tag ≡ tagOf name → t ≡ top-put → u ≡ sectionsPut i key tag t
+  pub row-put : (number : CsaNumber) (t u v w : List ℕ) → bits ≡ bitsOf number → SFits w32 (number .0) → tag ≡ tagOf name → t ≡ top-put → u
+      ≡ sectionsPut i key tag t
       → v ≡ putAt u at name → w ≡ putAt v (at + length name) payload
-      → (memoryOf w ≡ withRow s i (used (entryNamed name) (value number payload remaining) (isMarked marks))) × (w ≡ rowPut i name number payload remaining marks s)
+      → (memoryOf w ≡ withRow s i (used (entryNamed name) (value number payload remaining) (isMarked marks))) ×
+      (w ≡ rowPut i name number payload remaining marks s)
   row-put number t u v w e f g p q r x =
       let z = tag-size in
       let octets : w ≡ putAt (putAt tag-put at name) (at + length name) payload =

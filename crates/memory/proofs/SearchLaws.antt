@@ -39,7 +39,8 @@ module _ (p : Row → Bool) (rows : List Row) (i : ℕ) where
 
 -- rows that do not pass are passed by at once
 module _ (p : Row → Bool) where
-  pass-by : (rows : List Row) (k c : ℕ) → ((j : ℕ) → j < c → j < length rows → p (rowAt rows j) ≡ false) → firstFrom p k rows ≡ firstFrom p (k + c) (drop c rows)
+  pass-by : (rows : List Row) (k c : ℕ) → ((j : ℕ) → j < c → j < length rows → p (rowAt rows j) ≡ false) → firstFrom p k rows
+      ≡ firstFrom p (k + c) (drop c rows)
   unfolding firstFrom
   pass-by rows k zero h = let e : k ≡ k + 0 = omega arith in ap (λ n. firstFrom p n rows) e
   pass-by [] k (suc c) h = refl
@@ -58,7 +59,12 @@ pub record First (p : Row → Bool) (rows : List Row) (i : ℕ) : Type 0 where
 
 module _ (p : Row → Bool) where
   first-later : (r : Row) (rows : List Row) (i : ℕ) → p r ≡ false → First p rows i → First p (r ∷ rows) (suc i)
-  first-later r rows i q f = record { passes = f .passes; below = let b = f .below in omega arith; lowest = elim [ zero ↦ λ h. q | suc j ↦ λ h. f .lowest j (omega arith) ] }
+  first-later r rows i q f = record {
+    passes = f .passes;
+    below = let b = f .below in omega arith;
+    lowest =
+        elim [ zero ↦ λ h. q | suc j ↦ λ h. f .lowest j (omega arith) ];
+  }
 
   found-by : (r : Row) (rows : List Row) (k i : ℕ) → ((j : ℕ) → firstFrom p (suc k) rows ≡ At j → (n : ℕ) × ((j ≡ suc k + n) × First p rows n))
       → (b : Bool) → p r ≡ b → pick b (At k) (firstFrom p (suc k) rows) ≡ At i → (n : ℕ) × ((i ≡ k + n) × First p (r ∷ rows) n)
@@ -128,7 +134,8 @@ module _ (p : Row → Bool) where
   change-first f (r ∷ rows) zero h = rw (h .passes)
   change-first f (r ∷ rows) (suc i) h =
       let b = h .below in
-      rw (h .lowest 0 (omega arith)) (ap (λ z. r ∷ z) (change-first f rows i (record { passes = h .passes; below = omega arith; lowest = λ j k. h .lowest (suc j) (omega arith) })))
+      rw (h .lowest 0 (omega arith)) (ap (λ z. r ∷ z) (change-first f rows i
+      (record { passes = h .passes; below = omega arith; lowest = λ j k. h .lowest (suc j) (omega arith) })))
 
   -- and the one that is taken out
   pub find-first : (rows : List Row) (i : ℕ) → First p rows i → find p free rows ≡ rowAt rows i

@@ -9,10 +9,12 @@ use Rattle.memory.specs.Memory.{word4, word8, plus64, longSum, nameSum}
 
 module _ (name : List ℕ) (n : ℕ) where
   pub ends-sum : n ≤ 16 → plus64 (word8 name 0) (word8 name (n - 8)) ≡ longSum name n
-  ends-sum h = ap (λ b. pick b (plus64 (plus64 (word8 name 0) (word8 name (n - 8))) (word8 name 8)) (plus64 (word8 name 0) (word8 name (n - 8)))) (sym (le-ltb 16 n h))
+  ends-sum h = ap (λ b. pick b (plus64 (plus64 (word8 name 0) (word8 name (n - 8))) (word8 name 8)) (plus64 (word8 name 0) (word8 name (n - 8))))
+      (sym (le-ltb 16 n h))
 
   pub three-sum : 16 < n → plus64 (plus64 (word8 name 0) (word8 name (n - 8))) (word8 name 8) ≡ longSum name n
-  three-sum h = ap (λ b. pick b (plus64 (plus64 (word8 name 0) (word8 name (n - 8))) (word8 name 8)) (plus64 (word8 name 0) (word8 name (n - 8)))) (sym (lt-ltb 16 n h))
+  three-sum h = ap (λ b. pick b (plus64 (plus64 (word8 name 0) (word8 name (n - 8))) (word8 name 8)) (plus64 (word8 name 0) (word8 name (n - 8))))
+      (sym (lt-ltb 16 n h))
 
   pub no-sum : n < 4 → 0 ≡ nameSum name n
   no-sum h = rw (lt-ltb n 4 h)

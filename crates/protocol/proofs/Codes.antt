@@ -65,7 +65,8 @@ any-code true true true true true Fine = inl refl
 any-code true true true true true (Breaks at) = inr (inr (inr (inr (inr (inr refl)))))
 
 code-by : (w : ℕ) (k : Kind) (p : List ℕ) (l v t s x : Bool) (c : Checked) → mandatoryCheck w k p ≡ c
-    → refusalOf (byCode (firstCode (refuse (not l) 5 ∷ refuse (not v) 6 ∷ refuse (not t) 7 ∷ refuse (not s) 8 ∷ refuse (not x) 9 ∷ [])) w k p) ≡ codeBy l v t s x c
+    → refusalOf (byCode (firstCode (refuse (not l) 5 ∷ refuse (not v) 6 ∷ refuse (not t) 7 ∷ refuse (not s) 8 ∷ refuse (not x) 9 ∷ [])) w k p)
+    ≡ codeBy l v t s x c
 code-by w k p false v t s x c e = refl
 code-by w k p true false t s x c e = refl
 code-by w k p true true false s x c e = refl
@@ -150,7 +151,8 @@ module _ (w : ℕ) (p : List ℕ) where
 
 -- ---- where it is malformed
 by-check : (w : ℕ) (k : Kind) (p : List ℕ) (l v t s x : Bool) → AllTrue l v t s x
-    → byCode (firstCode (refuse (not l) 5 ∷ refuse (not v) 6 ∷ refuse (not t) 7 ∷ refuse (not s) 8 ∷ refuse (not x) 9 ∷ [])) w k p ≡ byCheck (mandatoryCheck w k p) w k p
+    → byCode (firstCode (refuse (not l) 5 ∷ refuse (not v) 6 ∷ refuse (not t) 7 ∷ refuse (not s) 8 ∷ refuse (not x) 9 ∷ [])) w k p
+    ≡ byCheck (mandatoryCheck w k p) w k p
 by-check w k p l v t s x f = rw (f .0, f .1, f .2, f .3, f .4)
 
 pub reads-malformed : (w : ℕ) (p : List ℕ) (at : ℕ) → FixedGood w p → mandatoryCheck w (kindOf (octet p 1)) p ≡ Breaks at → readPacket w p ≡ malformed at

@@ -17,7 +17,8 @@ use Rattle.protocol.specs.Sizes.{recordSize, packetMost}
 use Rattle.protocol.specs.Fields.{put2, put4}
 use Rattle.protocol.specs.Numbers.{bitsOf}
 use Rattle.protocol.specs.Messages.{CsaRecord, Body, ca, csuRequest, csuReply, csus, hello, Message, kindOfBody}
-use Rattle.protocol.specs.Layouts.{Ignored, typeOf, bit, flagsOf, countOf, recordOctets, recordsOctets, receiversOctets, beforeCommon, commonHead, elements, mandatory, layout}
+use Rattle.protocol.specs.Layouts.{Ignored, typeOf, bit, flagsOf, countOf, recordOctets, recordsOctets, receiversOctets, beforeCommon, commonHead}
+use Rattle.protocol.specs.Layouts.{elements, mandatory, layout}
 use Rattle.protocol.specs.WellFormed.{Octets, Id, GoodRecord, GoodBody, GoodReceiver, WellFormed}
 use Rattle.protocol.proofs.Places.{bit-le}
 use Rattle.protocol.proofs.ElementsBack.{SmallBeside, small-next}

@@ -17,7 +17,10 @@ use Rattle.protocol.specs.declared.Checked.{Checked}
 use Rattle.protocol.specs.declared.Checked.the-variants.{Fine, Breaks}
 use Rattle.protocol.specs.Sizes.{keyMost, payloadMost}
 use Rattle.protocol.specs.Fields.{octet, field2, field4}
-use Rattle.protocol.specs.Checks.{rule, field, andThen, firstBreak, isRequestKind, isHelloKind, commonAt, beforeChecks, receiverLengthGood, countMost, commonChecks, headCheck, nullAt, summarySize, payloadSize, keyLengthGood, reservedBits, purgedBits, payloadGood, recordChecks, receiverChecks, elementCheck, elementSize, elementsCheck, countAt, elementsAt, afterHead, mandatoryCheck}
+use Rattle.protocol.specs.Checks.{rule, field, andThen, firstBreak, isRequestKind, isHelloKind, commonAt, beforeChecks, receiverLengthGood}
+use Rattle.protocol.specs.Checks.{countMost, commonChecks, headCheck, nullAt, summarySize, payloadSize, keyLengthGood, reservedBits, purgedBits}
+use Rattle.protocol.specs.Checks.{payloadGood, recordChecks, receiverChecks, elementCheck, elementSize, elementsCheck, countAt, elementsAt}
+use Rattle.protocol.specs.Checks.{afterHead, mandatoryCheck}
 use Rattle.protocol.specs.Messages.{CsaRecord}
 use Rattle.protocol.specs.Reading.{recordAt, recordsAt}
 

@@ -23,7 +23,8 @@ use Rattle.records.specs.Places.{entryRecord, Puts, Adds, Places, shapeO
 use Rattle.records.proofs.PutLaws.{places-none, places-then, places-as, adds-one, adds-none, adds-as}
 
 -- ---- one row
-module _ (s : List ℕ) (i : ℕ) (long : length s ≡ memorySize) (below : i < rowsMost) (name : List ℕ) (e : name ≡ rowEntry s i .key ++ rowEntry s i .originator) where
+module _ (s : List ℕ) (i : ℕ) (long : length s ≡ memorySize) (below : i < rowsMost) (name : List ℕ)
+    (e : name ≡ rowEntry s i .key ++ rowEntry s i .originator) where
   row-named : entryNamed name ≡ rowEntry s i
   row-named = named-entry (rowEntry s i .key) (rowEntry s i .originator) name (originator-long s i long below) e
 
@@ -68,7 +69,8 @@ used1-few : {A : Type 0} (f : Entry → Value → A) (r : Row) → length (used1
 used1-few f free = omega arith
 used1-few f (used e v m) = omega arith
 
-most-room : (whole : Bool) (at n done : ℕ) (out : List ℕ) → at + (3 * mostOf whole + 64) ≤ length out → n ≤ at + done * mostOf whole → done ≤ 3 → n + 64 ≤ length out
+most-room : (whole : Bool) (at n done : ℕ) (out : List ℕ) → at + (3 * mostOf whole + 64) ≤ length out → n ≤ at + done * mostOf whole → done ≤ 3
+    → n + 64 ≤ length out
 most-room true at n done out h e f = omega arith
 most-room false at n done out h e f = omega arith
 

@@ -26,7 +26,8 @@ use Rattle.records.proofs.PutLaws.{puts-none, puts-then, puts-as}
 
 -- ---- one record
 module _ (s : List ℕ) (v : CsaRecord) where
-  module _ (name : List ℕ) (number held : CsaNumber) (q : Named v name number) (i : ℕ) (h : held ≡ valueAt s i .number) (b : Bool) (e : b ≡ newer number held) where
+  module _ (name : List ℕ) (number held : CsaNumber) (q : Named v name number) (i : ℕ) (h : held ≡ valueAt s i .number) (b : Bool)
+      (e : b ≡ newer number held) where
     told : newer (v .number) (valueAt s i .number) ≡ b
     told = sym (e ∙ (λ j. newer (q .number-is j) (h j)))
 
@@ -57,7 +58,15 @@ module _ (s p : List ℕ) (c : Cursor) (out₀ : List ℕ) where
     pub puts : Puts 64 done 28 out₀ out to
 
   pub soliciting-none : Walks p c → Soliciting out₀ (c .at) (c .left) 28
-  soliciting-none w = record { long = refl; walks = walk-start p c w; done = []; few = let f = w .few in omega arith; going = refl; puts = puts-none 64 28 out₀ }
+  soliciting-none w = record {
+    long = refl;
+    walks = walk-start p c w;
+    done = [];
+    few = let f = w .few in omega arith;
+    going = refl;
+    puts =
+        puts-none 64 28 out₀;
+  }
 
   module _ (out : List ℕ) (at left to : ℕ) (x : Soliciting out at left to) where
     pub soliciting-all : left ≤ 0 → Puts 64 (allSolicited (rowsIn s) (recordsOf p c)) 28 out₀ out to

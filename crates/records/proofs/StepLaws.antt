@@ -60,11 +60,13 @@ module _ (k : ℕ) where
 
   module _ (v : CsaRecord) (s t : List ℕ) where
     pub replies-one : (name : List ℕ) (number : CsaNumber) → Named v name number
-        → memoryOf t ≡ rowsAs (change (holds (entryNamed name)) (replied k number)) s → memoryOf t ≡ rowsAs (change (holds (entryOf v)) (replied k (v .number))) s
+        → memoryOf t ≡ rowsAs (change (holds (entryNamed name)) (replied k number)) s → memoryOf t
+        ≡ rowsAs (change (holds (entryOf v)) (replied k (v .number))) s
     replies-one name number q h = h ∙ (λ i. rowsAs (change (holds (named-of v name number q i)) (replied k (q .number-is i))) s)
 
     module _ (one : memoryOf t ≡ rowsAs (change (holds (entryOf v)) (replied k (v .number))) s) where
-      pub replies-then : (all rs : List CsaRecord) → all ≡ v ∷ rs → (u : List ℕ) → memoryOf u ≡ rowsAs (allReplied k rs) t → memoryOf u ≡ rowsAs (allReplied k all) s
+      pub replies-then : (all rs : List CsaRecord) → all ≡ v ∷ rs → (u : List ℕ) → memoryOf u ≡ rowsAs (allReplied k rs) t → memoryOf u
+          ≡ rowsAs (allReplied k all) s
       replies-then all rs e u rest =
           let r = rows-are s t (change (holds (entryOf v)) (replied k (v .number)) (rowsIn s)) one in
           rest ∙ (λ i. withRows (allReplied k rs (r i)) (one i)) ∙ ap (λ (l : List CsaRecord). rowsAs (allReplied k l) s) (sym e)

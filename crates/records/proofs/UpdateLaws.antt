@@ -33,7 +33,8 @@ use Rattle.records.proofs.PutLaws.{places-none, places-then, places-as,
 
 -- ---- the rows
 -- a value that is stored does not say whether it is null
-renewed-by : (live : ℕ → Bool) (k : ℕ) (r : CsaRecord) (x : Row) → renewed live k (received (r .hops) (r .number) (entryOf r) (r .payload)) x ≡ renewed live k r x
+renewed-by : (live : ℕ → Bool) (k : ℕ) (r : CsaRecord) (x : Row) → renewed live k (received (r .hops) (r .number) (entryOf r) (r .payload)) x
+    ≡ renewed live k r x
 renewed-by live k r free = refl
 renewed-by live k r (used e v m) = refl
 
@@ -41,7 +42,8 @@ module _ (rule : UpdateRule) (live : ℕ → Bool) (k : ℕ) (v : CsaRecord) (s 
   rows-as : (u : UpdateRule) → rule ≡ u → memoryOf t ≡ rowsAs (rowsBy (updateRuleOf u) live k v) s → memoryOf t ≡ rowsAs (rowsBy (updateRuleOf rule) live k v) s
   rows-as u e h = rw e h
 
-  pub rows-stored : (name : List ℕ) (number : CsaNumber) → Named v name number → (payload : List ℕ) (hops : ℕ) → payload ≡ v .payload → hops ≡ v .hops → rule ≡ Stored
+  pub rows-stored : (name : List ℕ) (number : CsaNumber) → Named v name number → (payload : List ℕ) (hops : ℕ) → payload ≡ v .payload → hops ≡ v .hops
+      → rule ≡ Stored
       → memoryOf t ≡ rowsAs (rowsBy rules.stored live k (received hops number (entryNamed name) payload)) s
       → memoryOf t ≡ rowsAs (rowsBy (updateRuleOf rule) live k v) s
   rows-stored name number n payload hops p g e h =
@@ -54,7 +56,8 @@ module _ (rule : UpdateRule) (live : ℕ → Bool) (k : ℕ) (v : CsaRecord) (s 
   pub rows-equal : rule ≡ Equal → memoryOf t ≡ rowsAs (change (holds (entryOf v)) (unmarked k)) s → memoryOf t ≡ rowsAs (rowsBy (updateRuleOf rule) live k v) s
   rows-equal e h = rows-as Equal e h
 
-  pub rows-older : rule ≡ Older → memoryOf t ≡ rowsAs (change (holds (entryOf v)) (waitsAgain k)) s → memoryOf t ≡ rowsAs (rowsBy (updateRuleOf rule) live k v) s
+  pub rows-older : rule ≡ Older → memoryOf t ≡ rowsAs (change (holds (entryOf v)) (waitsAgain k)) s → memoryOf t
+      ≡ rowsAs (rowsBy (updateRuleOf rule) live k v) s
   rows-older e h = rows-as Older e h
 
 module _ (rule : UpdateRule) (live : ℕ → Bool) (k : ℕ) (v : CsaRecord) (s : List ℕ) where
@@ -84,7 +87,8 @@ module _ (k : ℕ) (s t : List ℕ) (rule : UpdateRule) (name : List ℕ) (numbe
       → memoryOf t ≡ requestsPut k (acknowledged (entryNamed name) number (requestsOf (memoryOf s) k)) (memoryOf s) → RequestsBy (updateRuleOf rule)
   requests-gone u e same h = requests-as u e (gone h ∙ (λ j. requestsPut k (sym same j (requestsOf (memoryOf s) k)) (memoryOf s)))
 
-  pub requests-dropped : rule ≡ Null → memoryOf t ≡ requestsPut k (dropped (entryNamed name) (requestsOf (memoryOf s) k)) (memoryOf s) → RequestsBy (updateRuleOf rule)
+  pub requests-dropped : rule ≡ Null → memoryOf t ≡ requestsPut k (dropped (entryNamed name) (requestsOf (memoryOf s) k)) (memoryOf s)
+      → RequestsBy (updateRuleOf rule)
   requests-dropped e h =
       requests-as Null e
       (h ∙ ap (λ (x : Entry). requestsPut k (dropped x (requestsOf (memoryOf s) k)) (memoryOf s)) (named-of v name number n))
@@ -118,13 +122,15 @@ module _ (live : ℕ → Bool) (k : ℕ) (v : CsaRecord) (s : List ℕ) (rule : 
   one-updated t out after to x one reply = record {
     memory =
         one .memory
-        ∙ ap (λ (u : rules.UpdateRule). withRows (rowsBy u live k v (rowsIn s)) (requestsPut k (requestsBy u v (requestsOf (memoryOf s) k)) (memoryOf s))) (one .rule);
+        ∙ ap (λ (u : rules.UpdateRule). withRows (rowsBy u live k v (rowsIn s)) (requestsPut k (requestsBy u v (requestsOf (memoryOf s) k)) (memoryOf s)))
+        (one .rule);
     reply = adds-as 32 to out after x (ap (λ (u : rules.UpdateRule). replyOf u v) (one .rule)) reply;
   }
 
 -- ---- record after record
 -- the replies with one more or none
-more-replies : (b : Bool) (done : List CsaRecord) (v : CsaRecord) → map summaryOf done ++ pick b (summaryOf v ∷ []) [] ≡ map summaryOf (pick b (done ++ (v ∷ [])) done)
+more-replies : (b : Bool) (done : List CsaRecord) (v : CsaRecord) → map summaryOf done ++ pick b (summaryOf v ∷ []) []
+    ≡ map summaryOf (pick b (done ++ (v ∷ [])) done)
 more-replies true done v = sym (map-append summaryOf done (v ∷ []))
 more-replies false done v = append-nil (map summaryOf done)
 

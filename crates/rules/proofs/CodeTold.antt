@@ -20,7 +20,8 @@ use Rattle.protocol.proofs.Codes.{reads-malformed}
 use Rattle.rules.specs.Server.{slotsMost, Settings, settingsCode, Row, isFree, Server, slotAt}
 use Rattle.rules.specs.Links.{isLive, isPast}
 use Rattle.rules.specs.Rows.{entryRow}
-use Rattle.rules.specs.Refusals.{orElse, early, noRoom, linkIsDown, linkCode, pollCode, isHello, isHelloType, noPeer, unusable, messageCode, isPeer, addPeerCode, ownKeyGood, ownPayloadGood, ownEntry, rowSpent, rowPurged, rowEmpty, setCode, withdrawCode, purgeCode}
+use Rattle.rules.specs.Refusals.{orElse, early, noRoom, linkIsDown, linkCode, pollCode, isHello, isHelloType, noPeer, unusable, messageCode, isPeer}
+use Rattle.rules.specs.Refusals.{addPeerCode, ownKeyGood, ownPayloadGood, ownEntry, rowSpent, rowPurged, rowEmpty, setCode, withdrawCode, purgeCode}
 use Rattle.rules.specs.Events.{packet, codeOf, counts}
 use Rattle.rules.proofs.Stated.{none-stated, slotMissing}
 use Rattle.rules.proofs.StatedPacket.{packet-codes}

@@ -23,16 +23,19 @@ use Rattle.protocol.specs.Sizes.{idLength}
 use Rattle.protocol.specs.Messages.{Message, Body, ca, csuRequest, csuReply, csus, hello}
 use Rattle.protocol.specs.Reading.{Reading, refused, malformed, message, readPacket}
 use Rattle.rules.specs.Server.{rowsMost, Settings, Row, Slot, freshSlot, Server, slotAt}
-use Rattle.rules.specs.Links.{isDown, isLive, isPast, enters, upMove, downMove, helloMove, malformedMove, checkMove, CaRule, refuseCa, becomeSlave, becomeMaster, repeat, slaveOn, masterOn, masterDone, ignore, restart, caMove}
+use Rattle.rules.specs.Links.{isDown, isLive, isPast, enters, upMove, downMove, helloMove, malformedMove, checkMove, CaRule, refuseCa, becomeSlave}
+use Rattle.rules.specs.Links.{becomeMaster, repeat, slaveOn, masterOn, masterDone, ignore, restart, caMove}
 use Rattle.rules.specs.Rows.{nextWaiting, behind, rowsOf}
 use Rattle.rules.specs.Slots.{moved, emptied, withLink, withKept, helloSent, passed, alignedIf, completed}
 use Rattle.rules.specs.Sent.{octetsOf}
 use Rattle.rules.specs.Alignment.{CaPacket, caPacket, ruleFor, caSlot, taking, answering, answerMore}
 use Rattle.rules.specs.Packets.{slotOn, namesUs}
-use Rattle.rules.specs.Poll.{Due, nothingDue, aHello, firstCa, keptCa, aCsus, anUpdate, caInterval, firstFlags, requestRecord, heldRecord, dueSlot, dueOf, keptDropped, checked, pollSlot}
+use Rattle.rules.specs.Poll.{Due, nothingDue, aHello, firstCa, keptCa, aCsus, anUpdate, caInterval, firstFlags, requestRecord, heldRecord, dueSlot}
+use Rattle.rules.specs.Poll.{dueOf, keptDropped, checked, pollSlot}
 use Rattle.rules.specs.Poll as polls
 use Rattle.rules.specs.Refusals.{pollCode}
-use Rattle.rules.specs.Events.{Event, addPeer, linkUp, linkDown, packet, poll, set, withdraw, purge, counts, codeOf, liveIn, readSlot, slotAfter, acted, serverIf, sentIf, step, writtenAt}
+use Rattle.rules.specs.Events.{Event, addPeer, linkUp, linkDown, packet, poll, set, withdraw, purge, counts, codeOf, liveIn, readSlot, slotAfter}
+use Rattle.rules.specs.Events.{acted, serverIf, sentIf, step, writtenAt}
 use Rattle.rules.specs.Demand3.{isPollOf, isRequestType, requestRecords}
 use Rattle.rules.proofs.Relation.{Inv}
 use Rattle.rules.proofs.RequestBack.{not-hello, not-ca, not-csus}

@@ -19,7 +19,9 @@ use Rattle.rules.specs.Server.{Settings, Row, free, rowAt, Slot, freshSl
 use Rattle.rules.specs.Links.{enters}
 use Rattle.rules.specs.Rows.{toFree, sweptRow, swept, sweptIf, clearedIf}
 use Rattle.rules.specs.Packets.{rowsOn}
-use Rattle.rules.specs.Events.{Event, addPeer, linkUp, linkDown, packet, poll, set, withdraw, purge, codeOf, counts, Place, inSlot, nowhere, placeOf, alignmentAt, liveIn, peerSlot, slotsAfter, readRows, rowsChanged, emptiesIn, entersAt, cleared, bodyChanges, readChanges, changesRows, acted}
+use Rattle.rules.specs.Events.{Event, addPeer, linkUp, linkDown, packet, poll, set, withdraw, purge, codeOf, counts, Place, inSlot, nowhere}
+use Rattle.rules.specs.Events.{placeOf, alignmentAt, liveIn, peerSlot, slotsAfter, readRows, rowsChanged, emptiesIn, entersAt, cleared, bodyChanges}
+use Rattle.rules.specs.Events.{readChanges, changesRows, acted}
 use Rattle.rules.proofs.Relation.{Inv}
 use Rattle.rules.proofs.CodeTold.{not-in-use}
 
@@ -104,7 +106,8 @@ module _ (s : Server) (e : Event) (v : Inv s) (c : counts e (codeOf s e) ≡ tru
   ended-by true h = refl
   ended-by false h =
       let f = or-false (changesRows e) (entersAt (emptiesIn e) (s .slots) after) h in
-      let q : left ≡ s .rows = cleared-same (emptiesIn e) (s .slots) after (changedRows s e) (f .1) ∙ changed-same e (s .settings) (liveIn (s .slots)) (s .rows) (f .0) in
+      let q : left ≡ s .rows = cleared-same (emptiesIn e) (s .slots) after (changedRows s e) (f .1)
+      ∙ changed-same e (s .settings) (liveIn (s .slots)) (s .rows) (f .0) in
       q ∙ sym (swept-same (s .rows) (v .freed)) ∙ ap swept (sym q)
 
   pub acted-rows : acted s e .rows ≡ swept (rowsAt s e)

@@ -60,7 +60,8 @@ update-by : (p : CsaRecord → Bool) (rs : List CsaRecord) (b : Bool) → has p 
 update-by p rs true h = h
 update-by p rs false h = h
 
-update-of : (p : CsaRecord → Bool) (polled : Bool) (w : List ℕ) → polled ≡ true → has p (requestRecords w) ≡ true → ((polled && isRequestType w) && has p (requestRecords w)) ≡ true
+update-of : (p : CsaRecord → Bool) (polled : Bool) (w : List ℕ) → polled ≡ true → has p (requestRecords w) ≡ true
+    → ((polled && isRequestType w) && has p (requestRecords w)) ≡ true
 update-of p polled w e h = rw e (update-by p (recordsAt idLength w (field2 w 18) 28) (isRequestType w) h)
 
 -- ---- one event brings the cursor no further away, and an update request that leaves the entry out brings it nearer
@@ -118,4 +119,5 @@ pub fair : (c : Settings) (s : Server) (h : History) → Inv s → Rel c s h →
 fair c s h v r a k e es t many =
     let x = waiting-row (s .rows) (h .entries) (r .rows) k e (through-now c k e h (items s es) t) in
     let lt : x .0 < 64 = rw (← (v .rows .size)) (within free (holds e) refl (s .rows) (x .0) (x .1)) in
-    is-true (has (isUpdateOf k e) (items s es)) (λ n. too-many (count (isUpdateTo k) (items s es)) (slotAt s k .cursor) (x .0) many (few c k (x .0) e lt s h es v r a (x .1) t n))
+    is-true (has (isUpdateOf k e) (items s es)) (λ n. too-many (count (isUpdateTo k) (items s es)) (slotAt s k .cursor) (x .0) many
+    (few c k (x .0) e lt s h es v r a (x .1) t n))

@@ -13,11 +13,13 @@ use Rattle.laws.proofs.Cells.{all-alike}
 use Rattle.protocol.specs.Sizes.{idLength, keyMost, payloadMost}
 use Rattle.protocol.specs.Messages.{Message, Body, ca, csuRequest, csuReply, csus, hello}
 use Rattle.protocol.specs.Reading.{Reading, refused, malformed, message, readPacket}
-use Rattle.rules.specs.Server.{slotsMost, rowsMost, Settings, settingsCode, Entry, Row, free, used, holds, waitsFor, rowAt, freshSlot, Server, slotAt, fresh}
+use Rattle.rules.specs.Server.{slotsMost, rowsMost, Settings, settingsCode, Entry, Row, free, used, holds, waitsFor, rowAt, freshSlot, Server}
+use Rattle.rules.specs.Server.{slotAt, fresh}
 use Rattle.rules.specs.Rows.{toFree, sweptRow, swept}
 use Rattle.rules.specs.Packets.{rowsOn}
 use Rattle.rules.specs.Refusals.{unusable, ownKeyGood, ownPayloadGood, ownEntry}
-use Rattle.rules.specs.Events.{Event, addPeer, linkUp, linkDown, packet, poll, set, withdraw, purge, codeOf, counts, placeOf, liveIn, slotsAfter, readRows, rowsChanged, acted, serverIf, step, run}
+use Rattle.rules.specs.Events.{Event, addPeer, linkUp, linkDown, packet, poll, set, withdraw, purge, codeOf, counts, placeOf, liveIn, slotsAfter}
+use Rattle.rules.specs.Events.{readRows, rowsChanged, acted, serverIf, step, run}
 use Rattle.rules.specs.Demand3.{rowNumber}
 use Rattle.rules.proofs.Relation.{SizedEntry, Sized, RowsInv, Inv}
 use Rattle.rules.proofs.RowGrows.{Keep, Grows, grows-refl, grows-trans}
@@ -38,7 +40,8 @@ payload-sized p g = leb-true (length p) payloadMost (and-true (ltb 0 (length p))
 
 -- ---- the rows that an event changes
 grows-body : (s : Server) (k : ℕ) (p : List ℕ) (m : Message) → RowsInv (liveIn (s .slots)) (s .rows) → readPacket idLength p ≡ message m
-    → (b : Body) → m .body ≡ b → unusable (s .settings) m (slotAt s k) b ≡ false → Grows (liveIn (s .slots)) (s .rows) (rowsOn b (liveIn (s .slots)) k (s .rows))
+    → (b : Body) → m .body ≡ b → unusable (s .settings) m (slotAt s k) b ≡ false
+    → Grows (liveIn (s .slots)) (s .rows) (rowsOn b (liveIn (s .slots)) k (s .rows))
 grows-body s k p m v e (hello i f ids) q u = grows-refl (liveIn (s .slots)) (s .rows) v
 grows-body s k p m v e (ca n f rs) q u = grows-refl (liveIn (s .slots)) (s .rows) v
 grows-body s k p m v e (csuRequest rs) q u =
@@ -64,7 +67,8 @@ grows-changed s (packet k now p room) v c = grows-read s k now p room (v .rows) 
 grows-changed s (poll k now room) v c = grows-refl (liveIn (s .slots)) (s .rows) (v .rows)
 grows-changed s (set key payload) v c =
     let f = set-told s key payload c in
-    grows-set (liveIn (s .slots)) (ownEntry (s .settings) key) (s .rows) (v .rows) payload (payload-sized payload (f .0 .1)) (own-sized (s .settings) key (v .own) (f .0 .0))
+    grows-set (liveIn (s .slots)) (ownEntry (s .settings) key) (s .rows) (v .rows) payload (payload-sized payload (f .0 .1))
+    (own-sized (s .settings) key (v .own) (f .0 .0))
 grows-changed s (withdraw key) v c = grows-withdraw (liveIn (s .slots)) (ownEntry (s .settings) key) (s .rows) (v .rows)
 grows-changed s (purge key) v c = grows-purge (liveIn (s .slots)) (ownEntry (s .settings) key) (s .rows) (v .rows)
 

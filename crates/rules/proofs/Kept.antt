@@ -22,7 +22,9 @@ use Rattle.protocol.specs.Messages.{CsaRecord, Message, Body, ca, csuRequest, c
 use Rattle.protocol.specs.Layouts.{layout, packetOf}
 use Rattle.protocol.specs.Reading.{Reading, refused, malformed, message, readPacket}
 use Rattle.rules.specs.Server.{Settings, Row, Slot, freshSlot, Server, slotsMost, slotAt, fresh}
-use Rattle.rules.specs.Links.{isDown, isBidirectional, hearsPeer, isPast, enters, recorded, negotiating, withHello, toOther, upMove, downMove, helloMove, malformedMove, checkMove, CaRule, refuseCa, becomeSlave, becomeMaster, repeat, slaveOn, masterOn, masterDone, ignore, restart, caMove}
+use Rattle.rules.specs.Links.{isDown, isBidirectional, hearsPeer, isPast, enters, recorded, negotiating, withHello, toOther, upMove, downMove}
+use Rattle.rules.specs.Links.{helloMove, malformedMove, checkMove, CaRule, refuseCa, becomeSlave, becomeMaster, repeat, slaveOn, masterOn}
+use Rattle.rules.specs.Links.{masterDone, ignore, restart, caMove}
 use Rattle.protocol.specs.declared.HelloState.the-variants.{Waiting, Bidirectional}
 use Rattle.protocol.specs.Hello.{stale}
 use Rattle.rules.specs.Slots.{moved, emptied, withLink, withKept, helloSent, passed, alignedIf, toPeer}
@@ -30,7 +32,8 @@ use Rattle.rules.specs.Alignment.{CaPacket, caPacket, ruleFor, caSlot, t
 use Rattle.rules.specs.Packets.{slotOn, namesUs}
 use Rattle.rules.specs.Poll.{Due, nothingDue, aHello, firstCa, keptCa, aCsus, anUpdate, firstFlags, dueSlot, dueOf, caInterval, keptDropped, checked}
 use Rattle.rules.specs.Refusals.{unusable}
-use Rattle.rules.specs.Events.{Event, addPeer, linkUp, linkDown, packet, poll, set, withdraw, purge, counts, codeOf, Place, inSlot, nowhere, placeOf, liveIn, readSlot, slotAfter, slotsAfter, acted, serverIf, step, run}
+use Rattle.rules.specs.Events.{Event, addPeer, linkUp, linkDown, packet, poll, set, withdraw, purge, counts, codeOf, Place, inSlot, nowhere}
+use Rattle.rules.specs.Events.{placeOf, liveIn, readSlot, slotAfter, slotsAfter, acted, serverIf, step, run}
 use Rattle.rules.specs.SlotHistory.{isCa}
 use Rattle.rules.specs.Demand3.{isRequestType}
 use Rattle.rules.proofs.CodeTold.{message-told}
@@ -110,7 +113,8 @@ up-from : (l : Link) → From l (upMove l)
 up-from l = pick-of (From l) (isDown (l .hello)) (toOther Waiting l) l (never (l .alignment)) (λ h. h)
 
 check-from : (now : ℕ) (l : Link) → From l (checkMove now l)
-check-from now l = pick-of (From l) (hearsPeer (l .hello) && stale (l .interval) (l .factor) (l .heard) now) (toOther Waiting l) l (never (l .alignment)) (λ h. h)
+check-from now l = pick-of (From l) (hearsPeer (l .hello) && stale (l .interval) (l .factor) (l .heard) now) (toOther Waiting l) l (never (l .alignment))
+    (λ h. h)
 
 hello-from : (now i f : ℕ) (named : Bool) (l : Link) → From l (helloMove now i f named l)
 hello-from now i f true l =

@@ -61,7 +61,8 @@ module _ (c : Settings) (s : Server) (h : History) (v : Inv s) (r : Rel c s h) (
   kept-acted : counts x (codeOf s x) ≡ true → has (λ y. isOf e y && isDone y) (entriesAt c h (itemOf s x)) ≡ false → holds e (rowAt (acted s x .rows) i) ≡ true
   kept-acted t n =
       let m = sim-end s h c x v (r .settings) (r .slots) (r .rows) t (slots-act s c x k (r .settings) t h (r .slots)) in
-      let g : has (λ q. holds e q && toFree q) (rowsAt s x) ≡ false = sim-has (λ q. holds e q && toFree q) refl (rowsAt s x) (entriesAt c h (itemOf s x)) m ∙ n in
+      let g : has (λ q. holds e q && toFree q) (rowsAt s x) ≡ false = sim-has (λ q. holds e q && toFree q) refl (rowsAt s x) (entriesAt c h (itemOf s x)) m
+      ∙ n in
       rw (acted-rows s x v t, List·getD-map sweptRow (rowsAt s x) i free)
       (swept-kept e (rowAt (rowsAt s x) i) (kept-row (rowAt (s .rows) i) (rowAt (rowsAt s x) i) (grows-event s x v t .keep i) p)
       (has-false free (λ q. holds e q && toFree q) refl (rowsAt s x) g i))

@@ -17,7 +17,8 @@ use Rattle.rules.specs.Server.{rowsMost, Row, waitsFor, rowAt}
 use Rattle.rules.specs.Rows.{next, behind, nextWaiting}
 
 -- ---- each of them passes the test
-next-by : (p : ℕ → Bool) (j : ℕ) (l r : List ℕ) → All (λ i. p i ≡ true) l → All (λ i. p i ≡ true) r → (b : Bool) → p j ≡ b → All (λ i. p i ≡ true) (pick b (j ∷ l) r)
+next-by : (p : ℕ → Bool) (j : ℕ) (l r : List ℕ) → All (λ i. p i ≡ true) l → All (λ i. p i ≡ true) r → (b : Bool) → p j ≡ b
+    → All (λ i. p i ≡ true) (pick b (j ∷ l) r)
 next-by p j l r a c true e = (e, a)
 next-by p j l r a c false e = c
 
@@ -93,4 +94,5 @@ module _ (rows : List Row) (k c i : ℕ) (q : i < 64) (t : waitsFor k (rowAt row
   reached-or-nearer-by (past a b) = inr (nearer c i (behind c l) q a b)
 
   pub reached-or-nearer : (has (λ y. eqb y (c + far c i)) l ≡ true) ⊎ (4 + far (behind c l % rowsMost) i ≤ far c i)
-  reached-or-nearer = reached-or-nearer-by (seen-next (λ j. waitsFor k (rowAt rows (j % rowsMost))) (c + far c i) (rw (far-row c i q) t) 64 4 c (omega arith) (far-less c i))
+  reached-or-nearer = reached-or-nearer-by (seen-next (λ j. waitsFor k (rowAt rows (j % rowsMost))) (c + far c i) (rw (far-row c i q) t) 64 4 c
+      (omega arith) (far-less c i))

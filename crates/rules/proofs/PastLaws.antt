@@ -13,7 +13,9 @@ use Rattle.protocol.specs.declared.Alignment.{Alignment}
 use Rattle.protocol.specs.declared.Alignment.the-variants.{Down, Negotiate, Summarize, Update, Aligned}
 use Rattle.protocol.specs.declared.Link.{Link}
 use Rattle.rules.specs.Server.{Slot, freshSlot}
-use Rattle.rules.specs.Links.{isLive, isPast, isDown, isBidirectional, hearsPeer, enters, withAlignment, recorded, negotiating, upMove, downMove, helloMove, malformedMove, checkMove, CaIn, CaRule, refuseCa, becomeSlave, becomeMaster, repeat, slaveOn, masterOn, masterDone, ignore, restart, pastRule, ruleIn, caRule, caMove}
+use Rattle.rules.specs.Links.{isLive, isPast, isDown, isBidirectional, hearsPeer, enters, withAlignment, recorded, negotiating, upMove, downMove}
+use Rattle.rules.specs.Links.{helloMove, malformedMove, checkMove, CaIn, CaRule, refuseCa, becomeSlave, becomeMaster, repeat, slaveOn, masterOn}
+use Rattle.rules.specs.Links.{masterDone, ignore, restart, pastRule, ruleIn, caRule, caMove}
 use Rattle.protocol.specs.Hello.{stale}
 use Rattle.rules.specs.Slots.{withLink, emptied, moved, alignedIf, completed}
 use Rattle.rules.specs.Events.{alignmentAt, liveIn}

@@ -54,7 +54,8 @@ module _ (p : List ℕ) (m : Message) (rs : List CsaRecord) (own : length (m .se
       ∙ records-back p rs 28 (ap (λ (k : ℕ). drop k p) (sym at) ∙ s .rest-at) room good
 
 -- the packet, whatever its checksum field
-layout-records : (sum protocol group : ℕ) (sender receiver : List ℕ) (rs : List CsaRecord) → length sender ≡ idLength → length receiver ≡ idLength → All Readable rs
+layout-records : (sum protocol group : ℕ) (sender receiver : List ℕ) (rs : List CsaRecord) → length sender ≡ idLength → length receiver ≡ idLength
+    → All Readable rs
     → let p = layout zeros sum (record { protocol = protocol; group = group; sender = sender; receiver = receiver; body = csuRequest rs }) in
     recordsAt idLength p (field2 p 18) 28 ≡ rs
 layout-records sum protocol group sender receiver rs own peer good =
@@ -65,7 +66,8 @@ layout-records sum protocol group sender receiver rs own peer good =
 pub request-back : (c : Settings) (x : Slot) (rs : List CsaRecord) → length (c .id) ≡ idLength → length (x .peer) ≡ idLength → All Readable rs
     → requestRecords (packetOf (toPeer c x (csuRequest rs))) ≡ rs
 request-back c x rs own peer good =
-    rw (is-request c x rs) (unfold packetOf in layout-records (checksumOf (layout zeros 0 (toPeer c x (csuRequest rs)))) (c .protocol) (c .group) (c .id) (x .peer) rs own peer good)
+    rw (is-request c x rs) (unfold packetOf in layout-records (checksumOf (layout zeros 0 (toPeer c x (csuRequest rs)))) (c .protocol) (c .group) (c .id)
+    (x .peer) rs own peer good)
 
 pub not-hello : (c : Settings) (x : Slot) → isRequestType (packetOf (helloOf c x)) ≡ false
 unfolding packetOf layout

@@ -11,7 +11,8 @@ use Rattle.rules.specs.Server.{Settings, Row, Slot, Server, slotAt}
 use Rattle.rules.specs.Links.{enters}
 use Rattle.rules.specs.Packets.{rowsOn}
 use Rattle.rules.specs.Refusals.{ownEntry, unusable}
-use Rattle.rules.specs.Events.{Event, addPeer, linkUp, linkDown, packet, poll, set, withdraw, purge, codeOf, counts, Place, inSlot, nowhere, placeOf, alignmentAt, liveIn, slotsAfter, readRows, rowsChanged, cleared, acted, writtenAt, itemOf}
+use Rattle.rules.specs.Events.{Event, addPeer, linkUp, linkDown, packet, poll, set, withdraw, purge, codeOf, counts, Place, inSlot, nowhere}
+use Rattle.rules.specs.Events.{placeOf, alignmentAt, liveIn, slotsAfter, readRows, rowsChanged, cleared, acted, writtenAt, itemOf}
 use Rattle.rules.specs.SlotHistory.{SlotHistory, slotHistoriesAfter, liveStates}
 use Rattle.rules.specs.History.{Known, History, bodyEntries, readEntries, entriesChanged, entriesLeft, entriesAt, noteItem}
 use Rattle.rules.proofs.Relation.{Inv, seenOf, Sim}

@@ -15,14 +15,16 @@ use Rattle.protocol.specs.Messages.{CsaRecord}
 use Rattle.rules.specs.Server.{Entry, Row, free, used, isFree, isUsed, holds, Request}
 use Rattle.rules.specs.Rows.{entryRow, isPurged, unmarked, filled}
 use Rattle.rules.specs.Requests.{entryOf}
-use Rattle.rules.specs.Updates.{changedRow, setRows, purgedRow, purgeRows, null as noRecord, purgeAbsent, full as noRow, stored, equal, older, ruleAt, updateRule, rowFor, renewed, waitsAgain, rowsBy, Updated, byRule, allUpdated, replied, allReplied}
+use Rattle.rules.specs.Updates.{changedRow, setRows, purgedRow, purgeRows, null as noRecord, purgeAbsent, full as noRow, stored, equal, older}
+use Rattle.rules.specs.Updates.{ruleAt, updateRule, rowFor, renewed, waitsAgain, rowsBy, Updated, byRule, allUpdated, replied, allReplied}
 use Rattle.rules.specs.Packets.{updatedBy}
 use Rattle.rules.specs.Refusals.{rowSpent, rowPurged}
 use Rattle.rules.specs.History.{Known, nowHeld, isOf, admit, opened, arrived, noted, allNoted, answered, allAnswered, changed, created, purging}
 use Rattle.rules.specs.Demand3.{rowOf}
 use Rattle.rules.proofs.Relation.{Alive, RowsInv, Sim}
 use Rattle.rules.proofs.RowsKeep.{SizedRecord, rows-by, rows-replied}
-use Rattle.rules.proofs.RowSim.{answered-of, opened-of, created-of, changed-of, purging-of, merged, arrived-of, sim-holds, sim-change, sim-admit, sim-pick}
+use Rattle.rules.proofs.RowSim.{answered-of, opened-of, created-of, changed-of, purging-of, merged, arrived-of, sim-holds, sim-change, sim-admit}
+use Rattle.rules.proofs.RowSim.{sim-pick}
 use Rattle.rules.proofs.Entries.{row-there, Alike, alike-unmarked, alike-waitsAgain, alike-replied, alike-renewed, alike-changed, alike-purged}
 use Rattle.rules.proofs.RowGrows.{of-entry}
 
@@ -106,7 +108,8 @@ sim-answered live k [] rows es v s = s
 sim-answered live k (r ∷ rs) rows es v s =
     sim-answered live k rs (change (holds (entryOf r)) (replied k (r .number)) rows) (update (isOf (entryOf r)) (answered k r) es)
     (rows-replied live k r rows v)
-    (sim-change (entryOf r) (λ _. Unit {0}) (replied k (r .number)) (answered k r) (alike-replied k (r .number)) (λ x _ _. answered-of k r x) rows es (λ _. tt) (v .once) s)
+    (sim-change (entryOf r) (λ _. Unit {0}) (replied k (r .number)) (answered k r) (alike-replied k (r .number)) (λ x _ _. answered-of k r x) rows es
+    (λ _. tt) (v .once) s)
 
 -- ---- changes of ours
 module _ (live : ℕ → Bool) (e : Entry) (rows : List Row) (es : List Known) (v : RowsInv live rows) (s : Sim rows es) where

@@ -199,4 +199,5 @@ module _ (live : ℕ → Bool) where
     of-entry P e h i q = rw (one-found free (holds e) a (v .once e) i q) at h
 
     pub grows-unmarked : (k : ℕ) → Grows live a (map (unmarked k) a)
-    grows-unmarked k = grows-each (map (unmarked k) a) (length-map a (unmarked k)) (λ i. rw (List·getD-map (unmarked k) a i free) (good-unmarked live k (rowAt a i)))
+    grows-unmarked k = grows-each (map (unmarked k) a) (length-map a (unmarked k))
+        (λ i. rw (List·getD-map (unmarked k) a i free) (good-unmarked live k (rowAt a i)))

@@ -19,7 +19,8 @@ use Rattle.rules.specs.Server.{rowsMost, Entry, Value, Row, free, used, 
 use Rattle.rules.specs.Rows.{isPurged, unmarked, spread, filled, sweptRow, swept, clearedIf}
 use Rattle.rules.specs.Requests.{entryOf}
 use Rattle.rules.specs.Updates.{hopsMost, value, stepped, changedRow, newRow, purgedRow, valueOf, rowFor, renewed, waitsAgain, replied}
-use Rattle.rules.specs.History.{Act, put, take, waiting, Known, nowHeld, waitsAt, act, noActs, ownActs, storedActs, isOf, isDone, admit, opened, arrived, answered, changed, created, purging, left, leftIf}
+use Rattle.rules.specs.History.{Act, put, take, waiting, Known, nowHeld, waitsAt, act, noActs, ownActs, storedActs, isOf, isDone, admit, opened}
+use Rattle.rules.specs.History.{arrived, answered, changed, created, purging, left, leftIf}
 use Rattle.rules.specs.Demand3.{rowOf, Once}
 use Rattle.rules.proofs.Relation.{Alive, Sim}
 use Rattle.rules.proofs.CsaOrder.{steps-up, purges-up}

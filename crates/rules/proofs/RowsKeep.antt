@@ -25,10 +25,12 @@ use Rattle.protocol.proofs.RecordExact.{key-length, originator-length, payload-
 use Rattle.rules.specs.Server.{Entry, Value, Row, free, used, isFree, isUsed, holds, rowAt}
 use Rattle.rules.specs.Rows.{entryRow, isPurged, unmarked, filled}
 use Rattle.rules.specs.Requests.{entryOf}
-use Rattle.rules.specs.Updates.{changedRow, newRow, setRows, withdrawRows, purgedRow, purgeRows, null as noRecord, purgeAbsent, full, stored, equal, older, ruleAt, updateRule, valueOf, renewed, waitsAgain, rowsBy, Updated, byRule, allUpdated, replied, allReplied}
+use Rattle.rules.specs.Updates.{changedRow, newRow, setRows, withdrawRows, purgedRow, purgeRows, null as noRecord, purgeAbsent, full, stored, equal}
+use Rattle.rules.specs.Updates.{older, ruleAt, updateRule, valueOf, renewed, waitsAgain, rowsBy, Updated, byRule, allUpdated, replied, allReplied}
 use Rattle.rules.proofs.Relation.{SizedEntry, SizedValue, RowsInv}
 use Rattle.rules.proofs.Entries.{row-there}
-use Rattle.rules.proofs.RowGrows.{Older, spread-live, good-unmarked, good-waitsAgain, good-replied, good-renewed, good-changed, good-purged, Grows, grows-refl, grows-trans, grows-change, grows-filled, of-entry}
+use Rattle.rules.proofs.RowGrows.{Older, spread-live, good-unmarked, good-waitsAgain, good-replied, good-renewed, good-changed, good-purged, Grows}
+use Rattle.rules.proofs.RowGrows.{grows-refl, grows-trans, grows-change, grows-filled, of-entry}
 
 abbrev pub SizedRecord : CsaRecord → Type 0
 SizedRecord r = SizedEntry (entryOf r) × SizedValue (valueOf r)
@@ -48,7 +50,8 @@ module _ (live : ℕ → Bool) (k : ℕ) (r : CsaRecord) (rows : List Row) (l : 
   absent-by false false e = grows-refl live rows v
 
   -- it has one; by how the numbers compare
-  held-by : (f : Entry) (w : Value) (m : ℕ → Bool) → entryRow (entryOf r) rows ≡ used f w m → has (holds (entryOf r)) rows ≡ true → (b g : Bool) → newer (r .number) (w .number) ≡ b
+  held-by : (f : Entry) (w : Value) (m : ℕ → Bool) → entryRow (entryOf r) rows ≡ used f w m → has (holds (entryOf r)) rows ≡ true → (b g : Bool)
+      → newer (r .number) (w .number) ≡ b
       → Grows live rows (rowsBy (pick b stored (pick g older equal)) live k r rows)
   held-by f w m q e true g h = rw e (grows-renewed (rw q h))
   held-by f w m q e false true h = grows-change live rows v (holds (entryOf r)) (waitsAgain k) (λ i _. good-waitsAgain live k l (rowAt rows i))
@@ -122,9 +125,11 @@ sized-at k p r t =
       record { number-fits = toZ-any (field4 p (r + 8)); payload-fits = rw pay (t .payload-fits) },
     )
 
-body-sized : (k : Kind) (p : List ℕ) (n at : ℕ) (rs : List CsaRecord) → elementsCheck idLength k p n at ≡ Fine → bodyAt idLength k p n at ≡ csuRequest rs → All SizedRecord rs
+body-sized : (k : Kind) (p : List ℕ) (n at : ℕ) (rs : List CsaRecord) → elementsCheck idLength k p n at ≡ Fine → bodyAt idLength k p n at ≡ csuRequest rs
+    → All SizedRecord rs
 body-sized Ca p n at rs h e = let z : _≡_ {A = ℕ} 0 1 = cc in absurd (omega arith)
-body-sized CsuRequest p n at rs h e = let q : recordsAt idLength p n at ≡ rs = cc in rw q at (each-record idLength CsuRequest p SizedRecord (sized-at CsuRequest p) refl n at h)
+body-sized CsuRequest p n at rs h e = let q : recordsAt idLength p n at ≡ rs =
+    cc in rw q at (each-record idLength CsuRequest p SizedRecord (sized-at CsuRequest p) refl n at h)
 body-sized CsuReply p n at rs h e = let z : _≡_ {A = ℕ} 0 1 = cc in absurd (omega arith)
 body-sized Csus p n at rs h e = let z : _≡_ {A = ℕ} 0 1 = cc in absurd (omega arith)
 body-sized Hello p n at rs h e = let z : _≡_ {A = ℕ} 0 1 = cc in absurd (omega arith)

@@ -25,7 +25,9 @@ use Rattle.protocol.specs.Messages.{CsaRecord, Message, ca, csuRequest, csuRepl
 use Rattle.protocol.specs.Layouts.{bit, mandatory, layout, packetOf}
 use Rattle.laws.specs.Tables.{greater}
 use Rattle.rules.specs.Server.{Settings, Row, Slot}
-use Rattle.rules.specs.Links.{isDown, isBidirectional, hearsPeer, enters, recorded, withHello, toOther, negotiating, upMove, helloMove, checkMove, CaIn, sameHead, fromSlave, CaRule, refuseCa, becomeSlave, becomeMaster, repeat, slaveOn, masterOn, masterDone, ignore, restart, pastRule, ruleIn, caMove}
+use Rattle.rules.specs.Links.{isDown, isBidirectional, hearsPeer, enters, recorded, withHello, toOther, negotiating, upMove, helloMove, checkMove}
+use Rattle.rules.specs.Links.{CaIn, sameHead, fromSlave, CaRule, refuseCa, becomeSlave, becomeMaster, repeat, slaveOn, masterOn, masterDone, ignore}
+use Rattle.rules.specs.Links.{restart, pastRule, ruleIn, caMove}
 use Rattle.rules.specs.Slots.{toPeer, withKept, withLink, emptied, moved, completed}
 use Rattle.rules.specs.Sent.{Sent, nothing, newPacket as sentPacket, octetsOf}
 use Rattle.rules.specs.Alignment.{CaPacket, ruleFor, answerMore, answering, taking, caSentBy, caSlot}
@@ -66,7 +68,8 @@ seen l kept sent = record { link = l; kept = kept; sent = sent }
 
 -- a slot whose link moved
 pub moved-seen : (l : Link) (x : Slot) → seenOf (moved l x)
-    ≡ seen (pastLink l) (pick (enters (x .link .alignment) (l .alignment)) false (not (isEmpty (x .kept)))) (pick (enters (x .link .alignment) (l .alignment)) Never (x .timers .ca))
+    ≡ seen (pastLink l) (pick (enters (x .link .alignment) (l .alignment)) false (not (isEmpty (x .kept))))
+    (pick (enters (x .link .alignment) (l .alignment)) Never (x .timers .ca))
 moved-seen l x = by (enters (x .link .alignment) (l .alignment)) where
   by : (b : Bool) → seenOf (pick b (emptied (withLink l x)) (withLink l x))
       ≡ seen (pastLink l) (pick b false (not (isEmpty (x .kept)))) (pick b Never (x .timers .ca))
@@ -102,7 +105,8 @@ quiet-by : (a b c : Bool) (kept : Bool) → b ≡ false → c ≡ false → pick
 quiet-by true b c kept p q = refl
 quiet-by false b c kept p q = rw (p, q)
 
-pub quiet-seen : (e : Event) (l : Link) (m : Link) (x : Slot) → pastLink l ≡ m → Stays (pastLink (x .link)) m → ((a : Alignment) (t : Last) → dropsAt e a t ≡ false)
+pub quiet-seen : (e : Event) (l : Link) (m : Link) (x : Slot) → pastLink l ≡ m → Stays (pastLink (x .link)) m
+    → ((a : Alignment) (t : Last) → dropsAt e a t ≡ false)
     → seenOf (moved l x) ≡ quiet e m (seenOf x)
 quiet-seen e l m x f g d =
     moved-seen l x
@@ -192,12 +196,14 @@ module _ (s : Settings) (now : ℕ) (rows : List Row) (c : CaPacket) (x : Slot) 
       ∙ ap (λ m. caMove u (c .seen) m (pastLink (x .link))) (sym q)
 
   -- after a CA was written and is kept
-  kept-so : (u : CaRule) (y : Slot) → pastLink (y .link) ≡ caMove u (c .seen) (moreIn (wrote u)) (pastLink (x .link)) → isEmpty (y .kept) ≡ false → y .timers .ca ≡ At now
+  kept-so : (u : CaRule) (y : Slot) → pastLink (y .link) ≡ caMove u (c .seen) (moreIn (wrote u)) (pastLink (x .link)) → isEmpty (y .kept) ≡ false
+      → y .timers .ca ≡ At now
       → isCa (wrote u) ≡ true → seenOf y ≡ by-rule u
   kept-so u y h f t i = rw (i, at) (λ j. seen (h j) (not (f j)) (t j))
 
   -- an answer shows its O bit
-  answer-so : (u : CaRule) (m : Message) → wrote u ≡ packetOf m → answering u s now rows c x .link ≡ taking u rows c x .link → answering u s now rows c x .kept ≡ packetOf m
+  answer-so : (u : CaRule) (m : Message) → wrote u ≡ packetOf m → answering u s now rows c x .link ≡ taking u rows c x .link
+      → answering u s now rows c x .kept ≡ packetOf m
       → answering u s now rows c x .timers .ca ≡ At now → moreIn (wrote u) ≡ answerMore u rows x → isCa (wrote u) ≡ true
       → seenOf (completed (answering u s now rows c x)) ≡ by-rule u
   answer-so u m w h f t q i =

@@ -21,7 +21,8 @@ use Rattle.rules.specs.Links.{isPast, enters, checkMove}
 use Rattle.rules.specs.Rows.{nextWaiting, used1, rowsOf}
 use Rattle.rules.specs.Slots.{passed, emptied, withLink, withKept}
 use Rattle.rules.specs.Sent.{octetsOf}
-use Rattle.rules.specs.Poll.{Due, nothingDue, aHello, firstCa, keptCa, aCsus, anUpdate, caInterval, firstFlags, helloOf, firstCaOf, csusOf, requestRecord, heldRecord, updateOf, dueOf, dueSent, keptDropped, checked}
+use Rattle.rules.specs.Poll.{Due, nothingDue, aHello, firstCa, keptCa, aCsus, anUpdate, caInterval, firstFlags, helloOf, firstCaOf, csusOf}
+use Rattle.rules.specs.Poll.{requestRecord, heldRecord, updateOf, dueOf, dueSent, keptDropped, checked}
 use Rattle.rules.specs.Refusals.{pollCode}
 use Rattle.rules.specs.Events.{poll, codeOf, sentIf, writtenAt, itemOf}
 use Rattle.rules.specs.History.{Known, waitsAt, History}
@@ -87,9 +88,11 @@ sent-due : (s : Server) (es : List Known) → Inv s → Sim (s .rows) es → (k 
     → All (HeldAndWaiting k es) (requestRecords (octetsOf (dueSent d (s .settings) (s .rows) k y)))
 sent-due s es v m k y p l nothingDue = tt
 sent-due s es v m k y p l aHello = no-records (HeldAndWaiting k es) (packetOf (helloOf (s .settings) y)) (not-hello (s .settings) y)
-sent-due s es v m k y p l firstCa = no-records (HeldAndWaiting k es) (packetOf (firstCaOf (s .settings) y)) (not-ca (s .settings) y (y .link .number) firstFlags [])
+sent-due s es v m k y p l firstCa = no-records (HeldAndWaiting k es) (packetOf (firstCaOf (s .settings) y))
+    (not-ca (s .settings) y (y .link .number) firstFlags [])
 sent-due s es v m k y p l keptCa = no-records (HeldAndWaiting k es) (y .kept) (no-request (y .link .alignment) (y .kept) p)
-sent-due s es v m k y p l aCsus = no-records (HeldAndWaiting k es) (packetOf (csusOf (s .settings) y)) (not-csus (s .settings) y (map requestRecord (take 4 (y .requests))))
+sent-due s es v m k y p l aCsus = no-records (HeldAndWaiting k es) (packetOf (csusOf (s .settings) y))
+    (not-csus (s .settings) y (map requestRecord (take 4 (y .requests))))
 sent-due s es v m k y p l anUpdate = rw (update-back s v k y l) (held-rows k (s .rows) es m (y .cursor))
 
 sent-by : (s : Server) (es : List Known) → Inv s → Sim (s .rows) es → KeptCa s → (k now room : ℕ) (b : Bool) → eqb (pollCode s k now room) 0 ≡ b

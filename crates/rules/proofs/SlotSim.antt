@@ -29,13 +29,16 @@ use Rattle.rules.specs.Alignment.{caPacket}
 use Rattle.rules.specs.Packets.{namesUs, updatedBy, slotOn, sentOn}
 use Rattle.rules.specs.Poll.{Due, nothingDue, aHello, firstCa, keptCa, aCsus, anUpdate, caInterval, dueIn, dueOf, dueSlot, keptDropped, checked, pollSlot}
 use Rattle.rules.specs.Poll as polls
-use Rattle.rules.specs.Events.{Event, addPeer, linkUp, linkDown, packet, poll, set, withdraw, purge, codeOf, counts, Place, inSlot, nowhere, placeOf, liveIn, readSlot, slotAfter, slotsAfter, readSent, sentBy, sentIf, writtenAt}
-use Rattle.rules.specs.SlotHistory.{SlotHistory, bodyLink, readLink, isCsus, readsCsus, dropsAt, quiet, isCa, eventAfter, slotHistoryAfter, slotHistoriesAfter}
+use Rattle.rules.specs.Events.{Event, addPeer, linkUp, linkDown, packet, poll, set, withdraw, purge, codeOf, counts, Place, inSlot, nowhere}
+use Rattle.rules.specs.Events.{placeOf, liveIn, readSlot, slotAfter, slotsAfter, readSent, sentBy, sentIf, writtenAt}
+use Rattle.rules.specs.SlotHistory.{SlotHistory, bodyLink, readLink, isCsus, readsCsus, dropsAt, quiet, isCa, eventAfter, slotHistoryAfter}
+use Rattle.rules.specs.SlotHistory.{slotHistoriesAfter}
 use Rattle.rules.specs.History.{History}
 use Rattle.rules.proofs.Relation.{pastAs, pastLink, seenOf}
 use Rattle.rules.proofs.PastLaws.{past-past, enters-past, enters-same, up-past, check-past, hello-past, completed-link, seen-at}
 use Rattle.rules.proofs.Kept.{isSummarize, KeepsCa, KeptCa, kept-checked}
-use Rattle.rules.proofs.SeenSlots.{seen, moved-seen, reply-no-ca, request-no-ca, quiet-seen, still, master-same, up-stays, check-stays, hello-stays, ca-step}
+use Rattle.rules.proofs.SeenSlots.{seen, moved-seen, reply-no-ca, request-no-ca, quiet-seen, still, master-same, up-stays, check-stays}
+use Rattle.rules.proofs.SeenSlots.{hello-stays, ca-step}
 
 -- ---- a packet
 module _ (s : Settings) (live : ℕ → Bool) (k now : ℕ) (p : List ℕ) (room : ℕ) (rows : List Row) (x : Slot) (g : KeepsCa x) where
@@ -119,7 +122,8 @@ module _ (s : Settings) (now : ℕ) (rows : List Row) (k : ℕ) where
   drops-by false d kept = refl
 
   dropped-seen : (y : Slot) → seenOf (keptDropped now y)
-      ≡ seen (pastLink (y .link)) (pick (isPast (pastAs (y .link .alignment)) && passed caInterval (y .timers .ca) now) false (not (isEmpty (y .kept)))) (y .timers .ca)
+      ≡ seen (pastLink (y .link)) (pick (isPast (pastAs (y .link .alignment)) && passed caInterval (y .timers .ca) now) false (not (isEmpty (y .kept))))
+      (y .timers .ca)
   dropped-seen y = rw (past-past (y .link .alignment)) (by (isPast (y .link .alignment) && passed caInterval (y .timers .ca) now)) where
     by : (b : Bool) → seenOf (pick b (withKept [] y) y) ≡ seen (pastLink (y .link)) (pick b false (not (isEmpty (y .kept)))) (y .timers .ca)
     by true = refl
@@ -204,7 +208,8 @@ event-seen s h (packet j now p room) k at =
     let here : k ≡ j = cc in
     let r : Reading = readPacket idLength p in
     packet-seen (s .settings) (liveIn (s .slots)) j now p room (s .rows) (slotAt s k) (h k)
-    ∙ ap (λ i. eventAfter (packet j now p room) (s .settings) (octetsOf (readSent r (s .settings) (liveIn (s .slots)) j (s .rows) (slotAt s i))) (seenOf (slotAt s k))) here
+    ∙ ap (λ i. eventAfter (packet j now p room) (s .settings) (octetsOf (readSent r (s .settings) (liveIn (s .slots)) j (s .rows) (slotAt s i)))
+    (seenOf (slotAt s k))) here
 event-seen s h (poll j now room) k at =
     let here : k ≡ j = cc in
     poll-seen (s .settings) now (s .rows) j room (slotAt s k) (h k)

@@ -20,14 +20,16 @@ use Rattle.protocol.specs.Sizes.{idLength}
 use Rattle.protocol.specs.Messages.{Message, Body, ca, csuRequest, csuReply, csus, hello}
 use Rattle.protocol.specs.Reading.{Reading, refused, malformed, message, readPacket}
 use Rattle.rules.specs.Server.{Settings, Row, free, used, rowAt, Slot, freshSlot, Server, slotAt}
-use Rattle.rules.specs.Links.{CaRule, refuseCa, becomeSlave, becomeMaster, repeat, slaveOn, masterOn, masterDone, ignore, restart, isDown, isLive, isPast, enters, upMove, downMove, helloMove, malformedMove, caMove, checkMove}
+use Rattle.rules.specs.Links.{CaRule, refuseCa, becomeSlave, becomeMaster, repeat, slaveOn, masterOn, masterDone, ignore, restart, isDown, isLive}
+use Rattle.rules.specs.Links.{isPast, enters, upMove, downMove, helloMove, malformedMove, caMove, checkMove}
 use Rattle.rules.specs.Rows.{unmarked, clearedIf}
 use Rattle.rules.specs.Slots.{passed, withLink, withKept, emptied, moved, helloSent}
 use Rattle.rules.specs.Alignment.{CaPacket, caPacket, ruleFor, answerMore, caSlot}
 use Rattle.rules.specs.Packets.{namesUs, slotOn}
 use Rattle.rules.specs.Poll.{Due, nothingDue, aHello, firstCa, keptCa, aCsus, anUpdate, caInterval, dueOf, dueSlot, keptDropped, checked, pollSlot}
 use Rattle.rules.specs.Refusals.{linkCode, pollCode}
-use Rattle.rules.specs.Events.{Event, addPeer, linkUp, linkDown, packet, poll, set, withdraw, purge, codeOf, counts, Place, inSlot, nowhere, alignmentAt, placeOf, liveIn, peerSlot, upSlot, downSlot, readSlot, slotAfter, slotsAfter, cleared}
+use Rattle.rules.specs.Events.{Event, addPeer, linkUp, linkDown, packet, poll, set, withdraw, purge, codeOf, counts, Place, inSlot, nowhere}
+use Rattle.rules.specs.Events.{alignmentAt, placeOf, liveIn, peerSlot, upSlot, downSlot, readSlot, slotAfter, slotsAfter, cleared}
 use Rattle.rules.proofs.Relation.{Alive, RowsInv, Peered}
 use Rattle.rules.proofs.RowGrows.{Grows, grows-refl, grows-unmarked, keep-refl}
 use Rattle.rules.proofs.CodeTold.{peer-told, link-in-use, poll-in-use, packet-in-use}

@@ -160,7 +160,8 @@ module _ (s : Server) (k now : ℕ) (p : List ℕ) (room : ℕ) where
   abbrev rest : ℕ
   rest = readingCode (s .settings) (slotAt s k) (readPacket idLength p)
 
-  in-range : (reading.refusalOf (readPacket idLength p) ≡ 0) ⊎ ((4 < reading.refusalOf (readPacket idLength p)) × (reading.refusalOf (readPacket idLength p) ≤ 10))
+  in-range : (reading.refusalOf (readPacket idLength p)
+      ≡ 0) ⊎ ((4 < reading.refusalOf (readPacket idLength p)) × (reading.refusalOf (readPacket idLength p) ≤ 10))
   in-range = reader-range (reading.refusalOf (readPacket idLength p)) (read.no-other idLength p)
 
   -- a code of 1 to 4

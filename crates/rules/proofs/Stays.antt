@@ -16,10 +16,12 @@ use Rattle.rules.specs.Server.{Settings, Entry, sameEntry, Value, Row, f
 use Rattle.rules.specs.Links.{enters}
 use Rattle.rules.specs.Rows.{unmarked, spread, filled, swept, clearedIf}
 use Rattle.rules.specs.Requests.{entryOf}
-use Rattle.rules.specs.Updates.{hopsMost, value, changedRow, purgedRow, UpdateRule, null, purgeAbsent, full, stored, equal, older, updateRule, valueOf, renewed, waitsAgain, rowsBy, Updated, byRule, allUpdated, replied, allReplied}
+use Rattle.rules.specs.Updates.{hopsMost, value, changedRow, purgedRow, UpdateRule, null, purgeAbsent, full, stored, equal, older, updateRule}
+use Rattle.rules.specs.Updates.{valueOf, renewed, waitsAgain, rowsBy, Updated, byRule, allUpdated, replied, allReplied}
 use Rattle.rules.specs.Packets.{rowsOn}
 use Rattle.rules.specs.Refusals.{ownEntry}
-use Rattle.rules.specs.Events.{Event, addPeer, linkUp, linkDown, packet, poll, set, withdraw, purge, counts, codeOf, Place, inSlot, nowhere, placeOf, alignmentAt, liveIn, slotsAfter, readRows, rowsChanged, cleared, serverIf, step}
+use Rattle.rules.specs.Events.{Event, addPeer, linkUp, linkDown, packet, poll, set, withdraw, purge, counts, codeOf, Place, inSlot, nowhere}
+use Rattle.rules.specs.Events.{placeOf, alignmentAt, liveIn, slotsAfter, readRows, rowsChanged, cleared, serverIf, step}
 use Rattle.rules.proofs.Relation.{Inv}
 use Rattle.rules.proofs.Entries.{holds-along, Alike, alike-unmarked, alike-waitsAgain, alike-replied, alike-renewed, alike-changed, alike-purged}
 use Rattle.rules.proofs.Ends.{changedRows, rowsAt, acted-rows}

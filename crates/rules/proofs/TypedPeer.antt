@@ -24,15 +24,19 @@ use Rattle.rules.specs.Requests.{allTakenIn, rotated}
 use Rattle.rules.specs.Updates.{allSolicited}
 use Rattle.rules.specs.Slots.{passed, toPeer, withKept, withListed, withCursor, withRequests, moved, completed, caSent}
 use Rattle.rules.specs.Sent.{Sent, nothing, newPacket, again}
-use Rattle.rules.specs.Alignment.{CaPacket, caPacket, ruleFor, answerFrom, answerTo, answerMore, answerBody, caSentBy, wantedOf, taking, keeping, answering, caSlot}
+use Rattle.rules.specs.Alignment.{CaPacket, caPacket, ruleFor, answerFrom, answerTo, answerMore, answerBody, caSentBy, wantedOf, taking, keeping}
+use Rattle.rules.specs.Alignment.{answering, caSlot}
 use Rattle.rules.specs.Packets.{namesUs, updatedBy, slotOn, rowsOn, sentOn}
-use Rattle.rules.specs.Poll.{caInterval, requestRecord, heldRecord, Due, nothingDue, aHello, firstCa, keptCa, aCsus, anUpdate, dueOf, helloOf, firstFlags, firstCaOf, dueSent, dueSlot, keptDropped, checked, pollSlot, pollSent}
+use Rattle.rules.specs.Poll.{caInterval, requestRecord, heldRecord, Due, nothingDue, aHello, firstCa, keptCa, aCsus, anUpdate, dueOf, helloOf}
+use Rattle.rules.specs.Poll.{firstFlags, firstCaOf, dueSent, dueSlot, keptDropped, checked, pollSlot, pollSent}
 use Rattle.rules.specs.Refusals.{isHello}
 use Rattle.laws.proofs.Bools.{pick-of}
 use Rattle.rules.proofs.Typed.{GoodSettings, Ours, KeptFor}
 use Rattle.rules.proofs.TypedRows.{TypedRows, replied-all}
-use Rattle.rules.proofs.TypedRecords.{GoodRequests, GoodUpdated, all-updated, all-taken-in, rotated-good, replies-good, all-solicited, summaries-good, waiting-good, requests-good}
-use Rattle.rules.proofs.TypedSlots.{SlotFor, hello-good, check-good, ca-good, timers-kept, kept-kept, listed-kept, cursor-kept, requests-kept, moved-kept, completed-kept}
+use Rattle.rules.proofs.TypedRecords.{GoodRequests, GoodUpdated, all-updated, all-taken-in, rotated-good, replies-good, all-solicited}
+use Rattle.rules.proofs.TypedRecords.{summaries-good, waiting-good, requests-good}
+use Rattle.rules.proofs.TypedSlots.{SlotFor, hello-good, check-good, ca-good, timers-kept, kept-kept, listed-kept, cursor-kept, requests-kept}
+use Rattle.rules.proofs.TypedSlots.{moved-kept, completed-kept}
 
 -- from us to a peer, in our group; a Hello may name nobody
 pub record Meant (s : Settings) (peer : List ℕ) (m : Message) : Type 0 where

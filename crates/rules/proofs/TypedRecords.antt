@@ -21,7 +21,8 @@ use Rattle.protocol.specs.WellFormed.{GoodRecord, GoodRecords}
 use Rattle.rules.specs.Server.{holds, rowsMost, requestsMost, Entry, Value, Row, free, used, isUsed, waitsFor, rowAt, Request}
 use Rattle.rules.specs.Rows.{entryRow, next, used1, rowsOf, nextUsed, nextWaiting}
 use Rattle.rules.specs.Requests.{entryOf, asks, upToDate, Wanted, raised, join, takenIn, allTakenIn, acknowledged, rotated}
-use Rattle.rules.specs.Updates.{hopsMost, UpdateRule, null, purgeAbsent, full, stored, equal, older, updateRule, requestsBy, isAcknowledged, Updated, byRule, allUpdated, recordOf, nullRecord, solicitedOf, solicited, allSolicited}
+use Rattle.rules.specs.Updates.{hopsMost, UpdateRule, null, purgeAbsent, full, stored, equal, older, updateRule, requestsBy, isAcknowledged}
+use Rattle.rules.specs.Updates.{Updated, byRule, allUpdated, recordOf, nullRecord, solicitedOf, solicited, allSolicited}
 use Rattle.rules.specs.Alignment.{summaryRecord}
 use Rattle.rules.specs.Poll.{requestRecord, heldRecord}
 use Rattle.laws.proofs.Each.{picked, all-at, all-map, all-append, all-take, all-drop, all-without, all-find, all-change}
@@ -86,11 +87,13 @@ pub record GoodUpdated (n : ℕ) (x : Updated) : Type 0 where
   pub replies : All Update (x .replies)
   pub few : length (x .replies) ≤ n
 
-by-rule : (u : UpdateRule) (live : ℕ → Bool) (k : ℕ) (r : CsaRecord) (n : ℕ) (x : Updated) → Update r → GoodUpdated n x → GoodUpdated (suc n) (byRule u live k r x)
+by-rule : (u : UpdateRule) (live : ℕ → Bool) (k : ℕ) (r : CsaRecord) (n : ℕ) (x : Updated) → Update r → GoodUpdated n x
+    → GoodUpdated (suc n) (byRule u live k r x)
 by-rule u live k r n x h g = record {
   rows = rows-by u live k r (x .rows) h (g .rows);
   requests = requests-by u r (x .requests) (g .requests);
-  replies = pick-of (All Update) (isAcknowledged u) (x .replies ++ (r ∷ [])) (x .replies) (all-append Update (x .replies) (r ∷ []) (g .replies) (h, tt)) (g .replies);
+  replies = pick-of (All Update) (isAcknowledged u) (x .replies ++ (r ∷ [])) (x .replies) (all-append Update (x .replies) (r ∷ []) (g .replies) (h, tt))
+      (g .replies);
   few = pick-of (λ l. length l ≤ suc n) (isAcknowledged u) (x .replies ++ (r ∷ [])) (x .replies)
       (let f = g .few in simp length-append (omega arith)) (let f = g .few in omega arith);
 }
@@ -178,7 +181,8 @@ solicited-good rows g r h =
         pick-of Update (newer (r .number) (v .number)) (nullRecord r) (recordOf hopsMost e v) (null-good r (entry-of Csus r h) (number-of Csus r h))
         (held hopsMost e v (omega arith) (omega arith) (t .entry) (t .value))
 
-pub all-solicited : (rows : List Row) (rs : List CsaRecord) → TypedRows rows → GoodRecords idLength Csus rs → GoodRecords idLength CsuRequest (allSolicited rows rs)
+pub all-solicited : (rows : List Row) (rs : List CsaRecord) → TypedRows rows → GoodRecords idLength Csus rs
+    → GoodRecords idLength CsuRequest (allSolicited rows rs)
 all-solicited rows rs g h = record {
   few = rw (length-map rs (solicited rows)) (h .few);
   each = all-map (GoodRecord idLength Csus) Update (solicited rows) (solicited-good rows g) rs (h .each);

@@ -23,7 +23,8 @@ use Rattle.protocol.specs.WellFormed.{Octets, GoodRecord}
 use Rattle.rules.specs.Server.{Entry, Value, Row, free, used, isFree, holds}
 use Rattle.rules.specs.Rows.{entryRow, unmarked, spread, filled, toFree, sweptRow, swept, sweptIf, clearedIf}
 use Rattle.rules.specs.Requests.{entryOf}
-use Rattle.rules.specs.Updates.{hopsMost, value, stepped, changedRow, newRow, setRows, withdrawRows, purgedRow, purgeRows, UpdateRule, null, purgeAbsent, full, stored, equal, older, valueOf, rowFor, renewed, waitsAgain, rowsBy, replied, allReplied}
+use Rattle.rules.specs.Updates.{hopsMost, value, stepped, changedRow, newRow, setRows, withdrawRows, purgedRow, purgeRows, UpdateRule, null}
+use Rattle.rules.specs.Updates.{purgeAbsent, full, stored, equal, older, valueOf, rowFor, renewed, waitsAgain, rowsBy, replied, allReplied}
 use Rattle.rules.specs.Refusals.{rowSpent}
 use Rattle.laws.proofs.Each.{all-map, all-change}
 use Rattle.laws.proofs.Bools.{pick-of}

@@ -24,7 +24,9 @@ use Rattle.rules.specs.Server.{slotsMost, rowsMost, Settings, settingsCo
 use Rattle.rules.specs.Links.{isDown, enters, upMove, downMove, malformedMove}
 use Rattle.rules.specs.Slots.{moved, helloSent}
 use Rattle.rules.specs.Refusals.{isPeer, ownKeyGood, ownPayloadGood, ownEntry}
-use Rattle.rules.specs.Events.{Event, addPeer, linkUp, linkDown, packet, poll, set, withdraw, purge, codeOf, counts, Place, inSlot, nowhere, placeOf, liveIn, alignmentAt, peerSlot, upSlot, downSlot, readSlot, slotAfter, slotsAfter, readRows, rowsChanged, emptiesIn, entersAt, cleared, changesRows, timeAfter, acted, serverIf, step, run}
+use Rattle.rules.specs.Events.{Event, addPeer, linkUp, linkDown, packet, poll, set, withdraw, purge, codeOf, counts, Place, inSlot, nowhere}
+use Rattle.rules.specs.Events.{placeOf, liveIn, alignmentAt, peerSlot, upSlot, downSlot, readSlot, slotAfter, slotsAfter, readRows, rowsChanged}
+use Rattle.rules.specs.Events.{emptiesIn, entersAt, cleared, changesRows, timeAfter, acted, serverIf, step, run}
 use Rattle.rules.proofs.Stated.{both, peerBad, link-codes, poll-codes, add-peer-codes, set-codes}
 use Rattle.rules.proofs.CodeTold.{in-use, packet-in-use}
 use Rattle.laws.proofs.Each.{all-at, all-set, all-replicate}

@@ -18,7 +18,8 @@ use Rattle.protocol.specs.Messages.{hello}
 use Rattle.protocol.specs.WellFormed.{Id}
 use Rattle.rules.specs.Server.{Settings, Request, Slot}
 use Rattle.rules.specs.Links as links
-use Rattle.rules.specs.Links.{withHello, recorded, negotiating, toBidirectional, toOther, upMove, helloMove, checkMove, enters, isDown, isBidirectional, hearsPeer, CaRule, caMove}
+use Rattle.rules.specs.Links.{withHello, recorded, negotiating, toBidirectional, toOther, upMove, helloMove, checkMove, enters, isDown}
+use Rattle.rules.specs.Links.{isBidirectional, hearsPeer, CaRule, caMove}
 use Rattle.rules.specs.Slots.{withLink, withTimers, withKept, withListed, withCursor, withRequests, emptied, moved, completed}
 use Rattle.laws.proofs.Bools.{pick-of}
 use Rattle.rules.proofs.Typed.{KeptFor, GoodLink, TypedSlot}
@@ -65,7 +66,8 @@ hello-good time interval factor named l g =
     (other-good Unidirectional m h)
 
 pub check-good : (time : ℕ) (l : Link) → GoodLink l → GoodLink (checkMove time l)
-check-good time l g = pick-of GoodLink (hearsPeer (l .hello) && stale (l .interval) (l .factor) (l .heard) time) (toOther Waiting l) l (other-good Waiting l g) g
+check-good time l g = pick-of GoodLink (hearsPeer (l .hello) && stale (l .interval) (l .factor) (l .heard) time) (toOther Waiting l) l
+    (other-good Waiting l g) g
 
 pub ca-good : (u : CaRule) (c : links.CaIn) (more : Bool) (l : Link) → c .head .number .0 < 4294967296 → GoodLink l → GoodLink (caMove u c more l)
 ca-good links.refuseCa c more l h g = g

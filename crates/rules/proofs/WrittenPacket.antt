@@ -19,7 +19,8 @@ use Rattle.protocol.proofs.PacketBack.{read-back, packet-octets, packet-length,
 use Rattle.protocol.proofs.ReadWellFormed.{read-well-formed}
 use Rattle.rules.specs.Server.{Settings, settingsCode, Server, fresh, slotAt}
 use Rattle.rules.specs.Sent.{Sent, nothing, newPacket as sentPacket, again, octetsOf}
-use Rattle.rules.specs.Events.{Event, addPeer, linkUp, linkDown, packet, poll, set, withdraw, purge, codeOf, counts, inSlot, placeOf, liveIn, readSent, sentBy, sentIf, writtenAt, run}
+use Rattle.rules.specs.Events.{Event, addPeer, linkUp, linkDown, packet, poll, set, withdraw, purge, codeOf, counts, inSlot, placeOf, liveIn}
+use Rattle.rules.specs.Events.{readSent, sentBy, sentIf, writtenAt, run}
 use Rattle.rules.specs.Written.{WrotePacket}
 use Rattle.rules.proofs.Stated.{poll-codes}
 use Rattle.rules.proofs.Typed.{TypedServer}
@@ -96,7 +97,8 @@ module _ (s : Server) (ts : TypedServer s) where
   at-event (linkDown k now) t = inl (silent (linkDown k now) refl)
   at-event (packet k now p room) t =
       ⊎-elim (λ e. inl e) (λ w. inr (as-packet s (packet k now p room) k refl w))
-      (unfold writtenAt in wrote (s .settings) (slotAt s k .peer) (sentIf (counts (packet k now p room) (codeOf s (packet k now p room))) s (packet k now p room))
+      (unfold writtenAt in wrote (s .settings) (slotAt s k .peer) (sentIf (counts (packet k now p room) (codeOf s (packet k now p room))) s
+      (packet k now p room))
       (packet-sent k now p room (t .1) (counts (packet k now p room) (codeOf s (packet k now p room))) refl))
   at-event (poll k now room) t =
       ⊎-elim (λ e. inl e) (λ w. inr (as-packet s (poll k now room) k refl w))

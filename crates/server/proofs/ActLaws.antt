@@ -67,7 +67,8 @@ ActsBy b m live k now s t t′ before after out out′ n =
     ActsAt k y (clearedIf (enters (x .link .alignment) (y .link .alignment)) k (rowsOn b live k (rowsIn before)))
     (octetsOf (sentOn b s live k (rowsIn before) m x)) t t′ before after out out′ n
 
-module _ {k : ℕ} {slot : rules.Slot} {rows : List Row} {p t t′ before after out out′ : List ℕ} {n : ℕ} (a : ActsAt k slot rows p t t′ before after out out′ n) where
+module _ {k : ℕ} {slot : rules.Slot} {rows : List Row} {p t t′ before after out out′ : List ℕ} {n : ℕ}
+    (a : ActsAt k slot rows p t t′ before after out out′ n) where
   acts-rows : (rows′ : List Row) → rows ≡ rows′ → ActsAt k slot rows′ p t t′ before after out out′ n
   acts-rows rows′ e = record { acts = record { left = leaves-as (a .acts .left) slot rows′ refl e; wrote = a .acts .wrote }; others = a .others }
 
@@ -80,7 +81,8 @@ module _ (p : List ℕ) (h : Head) (k now : ℕ) (s : rules.Settings) (t : List 
   by-body t′ out′ n b e a = subst (λ (c : Body). ActsBy c (messageOf p h) live k now s t t′ before after out out′ n) (sym e) a
 
   -- a CA, whose slot is read whole and put
-  pub acts-ca : (t′ out′ : List ℕ) (x : Slot) (r : Acted) (u : links.CaRule) → x ≡ slotIn t k → h .kind ≡ Ca → u ≡ ruleFor (s .id) (caPacketAt p h) (slotWith x k before)
+  pub acts-ca : (t′ out′ : List ℕ) (x : Slot) (r : Acted) (u : links.CaRule) → x ≡ slotIn t k → h .kind ≡ Ca → u
+      ≡ ruleFor (s .id) (caPacketAt p h) (slotWith x k before)
       → TakesCa u k now s (caPacketAt p h) x before after out out′ r → ((j : ℕ) → slotIn t′ j ≡ on k (r .slot) (slotIn t) j)
       → ActsOn (messageOf p h) k now s t t′ before after out out′ (r .written)
   acts-ca t′ out′ x r u q e f a put =
@@ -93,7 +95,8 @@ module _ (p : List ℕ) (h : Head) (k now : ℕ) (s : rules.Settings) (t : List 
       (record {
         acts =
             subst (λ (z : Slot). Acts k (y w) (clearedIf (enters (w .link .alignment) (y w .link .alignment)) k (rowsIn before))
-            (octetsOf (caSentBy (ruleFor (s .id) (caPacketAt p h) w) s (rowsIn before) (caPacketAt p h) w)) before after out out′ (record { slot = z; written = r .written }))
+            (octetsOf (caSentBy (ruleFor (s .id) (caPacketAt p h) w) s (rowsIn before) (caPacketAt p h) w)) before after out out′
+            (record { slot = z; written = r .written }))
             (sym (put-at k t t′ before after (r .slot) put)) taken;
         others = put-others k t t′ before after (r .slot) put;
       })
@@ -105,7 +108,8 @@ module _ (p : List ℕ) (h : Head) (k now : ℕ) (s : rules.Settings) (t : List 
       (acts-rows (subst (λ (f : ℕ → Bool). TakesRequest f k s (recordsOf p (h .records)) t t′ before after out out′ n) l a) _
       (not-cleared _ k _ (enters-none _ (slotIn t k .link .alignment))))
 
-  pub acts-reply : h .kind ≡ CsuReply → memoryOf after ≡ rowsAs (allReplied k (recordsOf p (h .records))) before → ActsOn (messageOf p h) k now s t t before after out out 0
+  pub acts-reply : h .kind ≡ CsuReply → memoryOf after ≡ rowsAs (allReplied k (recordsOf p (h .records))) before
+      → ActsOn (messageOf p h) k now s t t before after out out 0
   acts-reply e m =
       by-body t out 0 _ (body-is p h e)
       (acts-rows (record {
@@ -121,7 +125,8 @@ module _ (p : List ℕ) (h : Head) (k now : ℕ) (s : rules.Settings) (t : List 
   acts-csus out′ n e a = by-body t out′ n _ (body-is p h e) (acts-rows a _ (not-cleared _ k _ (enters-same (slotIn t k .link .alignment))))
 
   pub acts-hello : (t′ : List ℕ) → h .kind ≡ Hello
-      → MovesAt k (helloMove now (field2 p 8) (field2 p 10) (namesUs (s .id) (messageOf p h .receiver) (receiversOf p (h .records))) (slotIn t k .link)) t t′ before after
+      → MovesAt k (helloMove now (field2 p 8) (field2 p 10) (namesUs (s .id) (messageOf p h .receiver) (receiversOf p (h .records))) (slotIn t k .link)) t
+      t′ before after
       → ActsOn (messageOf p h) k now s t t′ before after out out 0
   acts-hello t′ e m =
       let l : Link = helloMove now (field2 p 8) (field2 p 10) (namesUs (s .id) (messageOf p h .receiver) (receiversOf p (h .records))) (slotIn t k .link) in

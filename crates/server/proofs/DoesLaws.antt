@@ -17,7 +17,8 @@ use Rattle.rules.specs.Server.{slotAt}
 use Rattle.rules.specs.Links.{isDown}
 use Rattle.rules.specs.Refusals.{linkCode, pollCode, isPeer, addPeerCode}
 use Rattle.rules.specs.Sent.{octetsOf}
-use Rattle.rules.specs.Events.{Event, addPeer, linkUp, linkDown, packet, poll, withdraw, purge, codeOf, counts, acted, sentBy, serverIf, sentIf, step, writtenAt}
+use Rattle.rules.specs.Events.{Event, addPeer, linkUp, linkDown, packet, poll, withdraw, purge, codeOf, counts, acted, sentBy, serverIf, sentIf, step}
+use Rattle.rules.specs.Events.{writtenAt}
 use Rattle.rules.specs.Events as events
 use Rattle.rules.proofs.CodeTold.{peer-told}
 use Rattle.slots.specs.declared.state.Server.{Server}
@@ -120,8 +121,10 @@ module _ (e : Event) (s : Server) (slots before : List ℕ) where
   does-refused p o f r c t a =
       does-not (Refused f) r (ap codeNumber (sym t) ∙ c) (p (codeNumber (Refused f)) ∙ sym (refused-code (Refused f) refl)) a
 
-  pub does-counted : (slots′ after : List ℕ) (r : Answer) → counts e (codeOf (serverOf s slots before) e) ≡ true → codeNumber (r .outcome) ≡ codeOf (serverOf s slots before) e
-      → serverOf (r .server) slots′ after ≡ acted (serverOf s slots before) e → r .written ≡ length (octetsOf (sentBy (serverOf s slots before) e)) → Steps e s slots slots′ before after r
+  pub does-counted : (slots′ after : List ℕ) (r : Answer) → counts e (codeOf (serverOf s slots before) e) ≡ true → codeNumber (r .outcome)
+      ≡ codeOf (serverOf s slots before) e
+      → serverOf (r .server) slots′ after ≡ acted (serverOf s slots before) e → r .written ≡ length (octetsOf (sentBy (serverOf s slots before) e))
+      → Steps e s slots slots′ before after r
   does-counted slots′ after r h c v w = record {
     code = c;
     server = v ∙ sym (step-counted (serverOf s slots before) e h);
@@ -130,7 +133,8 @@ module _ (e : Event) (s : Server) (slots before : List ℕ) where
   }
 
   pub does-taken : (o : Outcome) (slots′ after : List ℕ) (r : Answer) → codeNumber o ≡ codeOf (serverOf s slots before) e → o ≡ Taken → r .outcome ≡ Taken
-      → serverOf (r .server) slots′ after ≡ acted (serverOf s slots before) e → r .written ≡ length (octetsOf (sentBy (serverOf s slots before) e)) → Steps e s slots slots′ before after r
+      → serverOf (r .server) slots′ after ≡ acted (serverOf s slots before) e → r .written ≡ length (octetsOf (sentBy (serverOf s slots before) e))
+      → Steps e s slots slots′ before after r
   does-taken o slots′ after r c t u v w =
       let z : codeOf (serverOf s slots before) e ≡ 0 = taken-zero o (codeOf (serverOf s slots before) e) t c in
       does-counted slots′ after r (ap (counts e) z ∙ counts-zero e) (ap codeNumber u ∙ sym z) v w

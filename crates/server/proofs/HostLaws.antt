@@ -14,7 +14,8 @@ use Rattle.rules.specs.Server as rules
 use Rattle.rules.specs.Server.{settingsCode, fresh}
 use Rattle.rules.specs.Sent.{nothing, octetsOf}
 use Rattle.rules.specs.Events as events
-use Rattle.rules.specs.Events.{Event, addPeer, linkUp, linkDown, packet, poll, withdraw, purge, codeOf, counts, sentBy, sentIf, step, writtenAt, Item, itemOf, run, items}
+use Rattle.rules.specs.Events.{Event, addPeer, linkUp, linkDown, packet, poll, withdraw, purge, codeOf, counts, sentBy, sentIf, step, writtenAt, Item}
+use Rattle.rules.specs.Events.{itemOf, run, items}
 use Rattle.rules.specs.Typed.{TypedSettings, TypedEvent}
 use Rattle.rules.specs.History.{history}
 use Rattle.rules.specs.Demand3.{Demand3}

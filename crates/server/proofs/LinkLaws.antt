@@ -52,7 +52,8 @@ module _ (k : ℕ) (x : Slot) (before : List ℕ) where
       let new : rules.Slot = helloSent Never (moved l was) in
       let is : new ≡ upSlot was =
       ap (λ (h : Link). helloSent Never (moved h was)) e ∙ sym (ap (λ (b : Bool). pick b (helloSent Never (moved (upMove (x .link)) was)) was) d) in
-      leaves-as (leaves-struct m r new (t (moved l was .requests) (moved l was .kept) ∙ ap (helloSent Never) (m .struct))) (upSlot was) (cleared (upSlot was .link)) is
+      leaves-as (leaves-struct m r new (t (moved l was .requests) (moved l was .kept) ∙ ap (helloSent Never) (m .struct))) (upSlot was)
+      (cleared (upSlot was .link)) is
       (ap cleared (sym (moved-link l was) ∙ ap (λ (s : rules.Slot). s .link) is))
 
   pub up-stays : isDown (x .link .hello) ≡ false → LeavesUp before x
@@ -73,7 +74,8 @@ module _ (k : ℕ) (t before : List ℕ) where
       → Changes k (helloSent Never) mid t′ → Ups k t t′ before after
   up-put mid t′ after d m c =
       let l : Link = slotIn t k .link in (
-        up-leaves k (slotIn t k) before after (toOther Waiting l) (slotIn mid k) (slotIn t′ k) d (sym (ap (λ (b : Bool). pick b (toOther Waiting l) l) d)) (m .moves) (c .slot),
+        up-leaves k (slotIn t k) before after (toOther Waiting l) (slotIn mid k) (slotIn t′ k) d (sym (ap (λ (b : Bool). pick b (toOther Waiting l) l) d))
+            (m .moves) (c .slot),
         λ j q. c .others j q ∙ m .others j q,
       )
 

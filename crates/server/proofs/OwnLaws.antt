@@ -56,17 +56,25 @@ pub own-used : (m : List ℕ) (i : ℕ) (n : CsaNumber) (p : List ℕ) (a b c : 
     → record { held = true; spent = a; purged = b; empty = c } ≡ ownOf (rowIn m i)
 own-used m i n p a b c number payload f g h =
     row-case m i (λ r. isUsed r ≡ true → record { held = true; spent = a; purged = b; empty = c } ≡ ownOf r) (λ u. absurd (false≢true u))
-    (λ u z. record { held = true; spent = (f ∙ ap spent number) z; purged = (g ∙ ap isPurged number) z; empty = (h ∙ no-length p ∙ ap (λ (l : List ℕ). isEmpty l) payload) z })
+    (λ u z. record {
+      held = true;
+      spent = (f ∙ ap spent number) z;
+      purged = (g ∙ ap isPurged number) z;
+      empty =
+          (h ∙ no-length p ∙ ap (λ (l : List ℕ). isEmpty l) payload) z;
+    })
 
 module _ (e : Entry) (m : List ℕ) where
-  pub own-found : (i : ℕ) (o : Own) → firstFrom (holds e) 0 (rowsIn m) ≡ At i → (isUsed (rowIn m i) ≡ true → o ≡ ownOf (rowIn m i)) → o ≡ ownOf (entryRow e (rowsIn m))
+  pub own-found : (i : ℕ) (o : Own) → firstFrom (holds e) 0 (rowsIn m) ≡ At i → (isUsed (rowIn m i) ≡ true → o ≡ ownOf (rowIn m i)) → o
+      ≡ ownOf (entryRow e (rowsIn m))
   own-found i o at w =
       let first = found-first (holds e) (rowsIn m) i at in
       let row : entryRow e (rowsIn m) ≡ usedRow m i = find-first (holds e) (rowsIn m) i first ∙ found-row m e i at in
       let there : rowIn m i ≡ usedRow m i = sym (row-get m i (found-below (holds e) m i at)) ∙ found-row m e i at in
       w (ap isUsed there) ∙ ap ownOf (there ∙ sym row)
 
-  pub own-none : firstFrom (holds e) 0 (rowsIn m) ≡ Nothing → record { held = false; spent = false; purged = false; empty = true } ≡ ownOf (entryRow e (rowsIn m))
+  pub own-none : firstFrom (holds e) 0 (rowsIn m) ≡ Nothing → record { held = false; spent = false; purged = false; empty = true }
+      ≡ ownOf (entryRow e (rowsIn m))
   own-none none = sym (ap ownOf (find-none rules.free (holds e) (rowsIn m) (has-none (holds e) (rowsIn m) none)))
 
 -- ---- the size of a key, of a payload
@@ -182,9 +190,11 @@ own-server s slots before after rows e =
     let same = slots-same slots before after (ap (λ (m : Memory). m .requests) e) (ap (λ (m : Memory). m .kept) e) in
     λ z. record { settings = settingsOf (s .settings); time = s .time; slots = same z; rows = rows-are before after rows e z }
 
-module _ (s : Server) (slots before after key : List ℕ) (o : Outcome) (r : Answer) (t : o ≡ Taken) (a : r ≡ record { server = s; outcome = Taken; written = 0 }) where
+module _ (s : Server) (slots before after key : List ℕ) (o : Outcome) (r : Answer) (t : o ≡ Taken)
+    (a : r ≡ record { server = s; outcome = Taken; written = 0 }) where
   own-does : (e : Event) (rows : List Row) → codeNumber o ≡ codeOf (serverOf s slots before) e → memoryOf after ≡ withRows rows (memoryOf before)
-      → withOwn s slots before rows ≡ acted (serverOf s slots before) e → 0 ≡ length (octetsOf (sentBy (serverOf s slots before) e)) → Steps e s slots slots before after r
+      → withOwn s slots before rows ≡ acted (serverOf s slots before) e → 0 ≡ length (octetsOf (sentBy (serverOf s slots before) e))
+      → Steps e s slots slots before after r
   own-does e rows c m does none =
       does-taken e s slots before o slots after r c t (ap (λ (x : Answer). x .outcome) a)
       (ap (λ (x : Answer). serverOf (x .server) slots after) a ∙ own-server s slots before after rows m ∙ does) (ap (λ (x : Answer). x .written) a ∙ none)
@@ -200,7 +210,8 @@ module _ (s : Server) (slots before after key : List ℕ) (o : Outcome) (r : Ans
       → memoryOf after ≡ rowsAs (λ rows. swept (setRows live x p rows)) before → Steps (events.set key p) s slots slots before after r
   unfolding codeOf acted
   set-does p x e c m =
-      own-does (events.set key p) (swept (setRows live our p (rowsIn before))) c (m ∙ ap (λ (y : Entry). rowsAs (λ rows. swept (setRows live y p rows)) before) e) refl refl
+      own-does (events.set key p) (swept (setRows live our p (rowsIn before))) c
+      (m ∙ ap (λ (y : Entry). rowsAs (λ rows. swept (setRows live y p rows)) before) e) refl refl
 
   pub withdraw-does : codeNumber o ≡ withdrawCode (serverOf s slots before) key → memoryOf after ≡ rowsAs (λ rows. swept (withdrawRows live our rows)) before
       → Steps (events.withdraw key) s slots slots before after r

@@ -68,7 +68,8 @@ module _ (m : Reading) (p : List ℕ) (k now : ℕ) (s : Server) (slots before :
   octetsIf b = pick b (readOctets m k s slots before) []
 
   -- a refusal, but for the malformed Hello
-  pub read-refused : (eqb (readingCode (settingsOf (s .settings)) (slotNow slots k before) m) 10 && isHelloType p) ≡ false → (f : Failure) (r : Answer) (out : List ℕ)
+  pub read-refused : (eqb (readingCode (settingsOf (s .settings)) (slotNow slots k before) m) 10 && isHelloType p) ≡ false
+      → (f : Failure) (r : Answer) (out : List ℕ)
       → codeNumber (Refused f) ≡ readingCode (settingsOf (s .settings)) (slotNow slots k before) m
       → r ≡ record { server = s; outcome = Refused f; written = 0 } → DoesRead m p k now s slots slots before before out out r
   read-refused h f r out c a =
@@ -97,7 +98,8 @@ module _ (m : Reading) (p : List ℕ) (k now : ℕ) (s : Server) (slots before :
 module _ (p : List ℕ) (k now : ℕ) (s : Server) (slots before : List ℕ) (h : k < 8) where
   -- the malformed Hello
   pub read-malformed : (at : ℕ) (slots′ mid after out : List ℕ) (from : Alignment) (u : Server) (r : Answer) → octet p 1 ≡ 5
-      → from ≡ slotIn slots k .link .alignment → MovesAt k (malformedMove (slotIn slots k .link)) slots slots′ before mid → Closes false from s slots′ k now mid after u
+      → from ≡ slotIn slots k .link .alignment → MovesAt k (malformedMove (slotIn slots k .link)) slots slots′ before mid
+      → Closes false from s slots′ k now mid after u
       → r ≡ record { server = u; outcome = Refused failure.Malformed; written = 0 }
       → DoesRead (malformed at) p k now s slots slots′ before after out out r
   read-malformed at slots′ mid after out from u r t e m c a =
@@ -105,7 +107,8 @@ module _ (p : List ℕ) (k now : ℕ) (s : Server) (slots before : List ℕ) (h 
       subst (λ (q : Answer). DoesRead (malformed at) p k now s slots slots′ before after out out q) (sym a)
       (read-counted (malformed at) p k now s slots before slots′ after (record { server = u; outcome = Refused failure.Malformed; written = 0 }) out out
       (eq-eqb (octet p 1) 5 t) refl
-      (closes (moves-rows k (malformedMove (z .link)) z before mid (slotIn slots′ k) (m .moves)) h false s u slots slots′ now after (c slots (sym e) (m .others)))
+      (closes (moves-rows k (malformedMove (z .link)) z before mid (slotIn slots′ k) (m .moves)) h false s u slots slots′ now after
+      (c slots (sym e) (m .others)))
       (wrote-none out))
 
   -- a message
@@ -115,7 +118,8 @@ module _ (p : List ℕ) (k now : ℕ) (s : Server) (slots before : List ℕ) (h 
     message-refused f r out t a = read-refused (message m) p k now s slots before
         (ap (λ (b : Bool). b && isHelloType p) (not-ten (settingsOf (s .settings)) (slotNow slots k before) m)) f r out (ap codeNumber (sym t) ∙ c) a
 
-    pub message-taken : (slots′ mid after out out′ : List ℕ) (changes : Bool) (from : Alignment) (n : ℕ) (r : Answer) → o ≡ Taken → changes ≡ bodyChanges (m .body)
+    pub message-taken : (slots′ mid after out out′ : List ℕ) (changes : Bool) (from : Alignment) (n : ℕ) (r : Answer) → o ≡ Taken → changes
+        ≡ bodyChanges (m .body)
         → from ≡ slotIn slots k .link .alignment → ActsOn m k now (settingsOf (s .settings)) slots slots′ before mid out out′ n
         → Closes changes from s slots′ k now mid after (r .server) → r ≡ record { server = r .server; outcome = Taken; written = n }
         → DoesRead (message m) p k now s slots slots′ before after out out′ r
@@ -177,7 +181,8 @@ module _ (p : List ℕ) (k now : ℕ) (s : Server) (slots before out : List ℕ)
         (d .server ∙ ap (serverIf (readPacket idLength p) p k now s slots before) t ∙ sym (acted-in s slots before theEvent k h refl refl))
         (subst (λ (q : List ℕ). Wrote q out out′ (r .written))
         (ap (octetsIf (readPacket idLength p) p k now s slots before) t
-        ∙ sym (ap (λ (x : rules.Slot). octetsOf (readSent (readPacket idLength p) (settingsOf (s .settings)) (liveIn (slotsOf slots before)) k (rowsIn before) x))
+        ∙ sym (ap (λ (x : rules.Slot). octetsOf (readSent (readPacket idLength p) (settingsOf (s .settings)) (liveIn (slotsOf slots before)) k
+        (rowsIn before) x))
         (slot-of s slots before k h))) (d .wrote))
     by-count false slots′ after out′ r t d =
         let c : counts theEvent (codeOf (serverOf s slots before) theEvent) ≡ false = counted-is false t in

@@ -59,7 +59,8 @@ module _ (s : Settings) (n : length (s .id) ≡ 4) where
   both-set d e = rw (eq-eqb (length (s .id)) 4 n, ne-eqb (s .interval) 0 d, ne-eqb (s .factor) 0 e)
 
 module _ (s : Settings) (v : Server) (r : Answer) where
-  pub starts-not : (slots m : List ℕ) → TypedSettings (settingsOf s) → settingsCode (settingsOf s) ≡ 17 → r ≡ record { server = v; outcome = Refused Size; written = 0 }
+  pub starts-not : (slots m : List ℕ) → TypedSettings (settingsOf s) → settingsCode (settingsOf s) ≡ 17 → r
+      ≡ record { server = v; outcome = Refused Size; written = 0 }
       → Starts s slots slots m m r
   starts-not slots m t c a = record {
     code = ap (λ (x : Answer). codeNumber (x .outcome)) a ∙ sym c;
@@ -69,7 +70,8 @@ module _ (s : Settings) (v : Server) (r : Answer) where
     typed = t;
   }
 
-  pub starts-so : (slots slots′ before after : List ℕ) → TypedSettings (settingsOf s) → settingsCode (settingsOf s) ≡ 0 → serverOf v slots′ after ≡ fresh (settingsOf s)
+  pub starts-so : (slots slots′ before after : List ℕ) → TypedSettings (settingsOf s) → settingsCode (settingsOf s) ≡ 0 → serverOf v slots′ after
+      ≡ fresh (settingsOf s)
       → r ≡ record { server = v; outcome = Taken; written = 0 } → Starts s slots slots′ before after r
   starts-so slots slots′ before after t c f a = record {
     code = ap (λ (x : Answer). codeNumber (x .outcome)) a ∙ sym c;
@@ -131,11 +133,17 @@ module _ (s : Server) (slots : List ℕ) (k : ℕ) (id m : List ℕ) where
         add-tried b o e = rw (lt-ltb k 8 h, eq-eqb (length id) 4 n, used-is s slots k m h u, o, e)
 
 -- ---- the slot: no requests and no kept CA, the rows as they were
-pub adds : (s : Server) (slots slots′ : List ℕ) (k : ℕ) (id a : List ℕ) (y : Slot) (before after : List ℕ) → k < 8 → a ≡ id → slotOf y [] [] ≡ peerSlot a → IsPut k y slots slots′
+pub adds : (s : Server) (slots slots′ : List ℕ) (k : ℕ) (id a : List ℕ) (y : Slot) (before after : List ℕ) → k < 8 → a ≡ id → slotOf y [] [] ≡ peerSlot a
+    → IsPut k y slots slots′
     → memoryOf after ≡ keptPut k [] (requestsPut k [] (memoryOf before)) → serverOf s slots′ after ≡ acted (serverOf s slots before) (addPeer k id)
 unfolding acted
 adds s slots slots′ k id a y before after h q e p m =
-    let l : Leaves k (peerSlot id) (rowsIn before) before after y = record { struct = e ∙ ap peerSlot q; memory = m ∙ ap (λ (r : List Row). keptPut k [] (requestsPut k [] (withRows r (memoryOf before)))) (memory-rows before) } in
+    let l : Leaves k (peerSlot id) (rowsIn before) before after y =
+    record {
+      struct = e ∙ ap peerSlot q;
+      memory = m
+          ∙ ap (λ (r : List Row). keptPut k [] (requestsPut k [] (withRows r (memoryOf before)))) (memory-rows before);
+    } in
     λ z. record {
       settings = settingsOf (s .settings);
       time = s .time;

@@ -33,12 +33,14 @@ module _ (s : Server) (slots slots′ : List ℕ) (k now : ℕ) (before after ou
       → PollsAt k now (settingsOf (s .settings)) slots slots′ before mid out out′ n → Closes false from s slots′ k now mid after (r .server)
       → r ≡ record { server = r .server; outcome = Taken; written = n } → PollsTaken k now s slots slots′ before after out out′ r
   polls-taken mid from n h e p c a = record {
-    server = λ room. ends-acted s slots slots′ before mid after (events.poll k now room) k now from (r .server) h refl refl refl (sym e) (p .others) (p .acts .left) c;
+    server = λ room. ends-acted s slots slots′ before mid after (events.poll k now room) k now from (r .server) h refl refl refl (sym e) (p .others)
+        (p .acts .left) c;
     outcome = ap (λ (x : Answer). x .outcome) a;
     wrote = record { size = ap (λ (x : Answer). x .written) a ∙ p .acts .wrote .size; octets = p .acts .wrote .octets };
   }
 
-  pub polls : (o : Outcome) → codeNumber o ≡ pollCode (serverOf s slots before) k now (length out) → o ≡ Taken → PollsTaken k now s slots slots′ before after out out′ r
+  pub polls : (o : Outcome) → codeNumber o ≡ pollCode (serverOf s slots before) k now (length out) → o ≡ Taken
+      → PollsTaken k now s slots slots′ before after out out′ r
       → StepsOut (events.poll k now (length out)) s slots slots′ before after out out′ r
   unfolding codeOf
   polls o c t p =

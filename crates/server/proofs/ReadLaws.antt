@@ -53,7 +53,8 @@ is-ca Csus h = absurd (false≢true h)
 is-ca Hello h = absurd (false≢true h)
 
 -- a CA is not usable where its rule refuses it
-pub ca-unusable : (p : List ℕ) (h : Head) (s : rules.Settings) (t m : List ℕ) (k : ℕ) (x : Slot) (b : Bool) (u : CaRule) → isCaKind (h .kind) ≡ true → x ≡ slotIn t k
+pub ca-unusable : (p : List ℕ) (h : Head) (s : rules.Settings) (t m : List ℕ) (k : ℕ) (x : Slot) (b : Bool) (u : CaRule) → isCaKind (h .kind) ≡ true → x
+    ≡ slotIn t k
     → u ≡ ruleFor (s .id) (caPacketAt p h) (slotWith x k m) → b ≡ isRefused u → b ≡ unusable s (messageOf p h) (slotNow t k m) (messageOf p h .body)
 ca-unusable p h s t m k x b u e q f g =
     g ∙ ap isRefused (f ∙ ap (λ (z : Slot). ruleFor (s .id) (caPacketAt p h) (slotWith z k m)) q)

@@ -66,7 +66,8 @@ slots-same slots a b e f =
 -- a table that differs in slot k alone
 pub is-put : (k : ℕ) (slots slots′ : List ℕ) → ((j : ℕ) → (j ≡ k → ⊥) → slotIn slots′ j ≡ slotIn slots j) → IsPut k (slotIn slots′ k) slots slots′
 is-put k slots slots′ o j =
-    picked (λ (z : Slot). slotIn slots′ j ≡ z) (eqb j k) (slotIn slots′ k) (slotIn slots j) (λ e. ap (slotIn slots′) (eqb-true j k e)) (λ f. o j (eqb-false j k f))
+    picked (λ (z : Slot). slotIn slots′ j ≡ z) (eqb j k) (slotIn slots′ k) (slotIn slots j) (λ e. ap (slotIn slots′) (eqb-true j k e))
+    (λ f. o j (eqb-false j k f))
 
 -- the end of an event: the rows may be swept
 pub ends : (sweep : Bool) (s : Server) (slots slots′ before after : List ℕ) (k now : ℕ) (x : Slot) → k < 8 → IsPut k x slots slots′
@@ -182,7 +183,8 @@ LeavesBy e s slots k x before after r =
     (rowsChanged e (settingsOf (s .settings)) (liveIn (slotsOf slots before)) (rowsIn before))) before after r
 
 -- so the server at its end is that of the event
-pub closes-acted : (s r : Server) (slots slots′ before after last : List ℕ) (e : Event) (k now : ℕ) (y : Slot) → k < 8 → placeOf e ≡ inSlot k → emptiesIn e ≡ inSlot k
+pub closes-acted : (s r : Server) (slots slots′ before after last : List ℕ) (e : Event) (k now : ℕ) (y : Slot) → k < 8 → placeOf e ≡ inSlot k → emptiesIn e
+    ≡ inSlot k
     → now ≡ timeAfter e (s .time) → LeavesBy e s slots k (slotIn slots k) before after y
     → serverOf r slots′ last ≡ ended (sweepsAt (changesRows e) slots k y) k now (slotWith y k after) (serverOf s slots after)
     → serverOf r slots′ last ≡ acted (serverOf s slots before) e
@@ -194,7 +196,8 @@ closes-acted s r slots slots′ before after last e k now y h p w t l c =
     ∙ sym (acted-in s slots before e k h p w)
 
 -- the same, of what a function leaves that ends an event
-pub ends-acted : (s : Server) (slots slots′ before after last : List ℕ) (e : Event) (k now : ℕ) (from : Alignment) (r : Server) → k < 8 → placeOf e ≡ inSlot k → emptiesIn e ≡ inSlot k
+pub ends-acted : (s : Server) (slots slots′ before after last : List ℕ) (e : Event) (k now : ℕ) (from : Alignment) (r : Server) → k < 8 → placeOf e
+    ≡ inSlot k → emptiesIn e ≡ inSlot k
     → now ≡ timeAfter e (s .time) → slotIn slots k .link .alignment ≡ from → ((j : ℕ) → (j ≡ k → ⊥) → slotIn slots′ j ≡ slotIn slots j)
     → LeavesBy e s slots k (slotIn slots k) before after (slotIn slots′ k) → Closes (changesRows e) from s slots′ k now after last r
     → serverOf r slots′ last ≡ acted (serverOf s slots before) e

@@ -24,7 +24,8 @@ use Rattle.rules.specs.Links.{withAlignment, withHello}
 use Rattle.rules.specs.Slots.{withLink, withTimers, withCursor, helloSent, caSent, csusSent, updateSent}
 use Rattle.slots.specs.declared.state.Slot.{Slot}
 use Rattle.slots.specs.State.{slotOf}
-use Rattle.table.specs.Words.{slotWords, shortIn, numberIn, lastIn, helloIn, alignmentIn, slotFrom, slotIn, PutsWord, Changes, withHeard, withInterval, withFactor}
+use Rattle.table.specs.Words.{slotWords, shortIn, numberIn, lastIn, helloIn, alignmentIn, slotFrom, slotIn, PutsWord, Changes, withHeard}
+use Rattle.table.specs.Words.{withInterval, withFactor}
 
 -- ---- times
 pub last-some : (w : ℕ) → (w ≡ 0 → ⊥) → lastIn w ≡ At (numberIn (w - 1))
@@ -100,7 +101,8 @@ module _ (k n w : ℕ) (before after : List ℕ) (p : PutsWord k n w before afte
   abbrev words : ℕ → ℕ
   words = λ i. getD before (k * slotWords + i) 0
 
-  pub changes-by : ((qs : List Request) (kept : List ℕ) → slotOf (slotFrom (on n w words)) qs kept ≡ f (slotOf (slotFrom words) qs kept)) → Changes k f before after
+  pub changes-by : ((qs : List Request) (kept : List ℕ) → slotOf (slotFrom (on n w words)) qs kept ≡ f (slotOf (slotFrom words) qs kept))
+      → Changes k f before after
   unfolding slotIn
   changes-by h = record {
     slot = λ qs kept. ap (λ (x : Slot). slotOf x qs kept) (p k ∙ rw (eq-eqb k k refl)) ∙ h qs kept;

@@ -14,7 +14,9 @@ use Rattle.protocol.specs.declared.Kind.the-variants.{Ca, CsuRequest, CsuReply,
 use Rattle.protocol.specs.declared.Checked.{Checked}
 use Rattle.protocol.specs.declared.Checked.the-variants.{Fine, Breaks}
 use Rattle.protocol.specs.Sizes.{idLength}
-use Rattle.protocol.specs.Checks.{rule, field, andThen, firstBreak, isHelloKind, commonAt, beforeChecks, plainChecks, lengthChecks, idChecks, commonChecks, headCheck, recordChecks, elementCheck, elementSize, elementsCheck, countAt, elementsAt, afterHead, mandatoryCheck}
+use Rattle.protocol.specs.Checks.{rule, field, andThen, firstBreak, isHelloKind, commonAt, beforeChecks, plainChecks, lengthChecks, idChecks}
+use Rattle.protocol.specs.Checks.{commonChecks, headCheck, recordChecks, elementCheck, elementSize, elementsCheck, countAt, elementsAt, afterHead}
+use Rattle.protocol.specs.Checks.{mandatoryCheck}
 
 -- n octets fit behind `at`
 pub shifted : (at n size : ℕ) → at ≤ size → leb n (size - at) ≡ leb (at + n) size

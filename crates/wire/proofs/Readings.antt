@@ -94,7 +94,8 @@ module _ (p : List ℕ) where
   refused zero e h = absurd (h refl)
   refused (suc n) e h = record { means = ap (λ (x : ℕ). byCode x idLength (kindOf (octet p 1)) p) e; near = omega arith }
 
-  module _ {code t : ℕ} {k : Kind} {m : Checked} (e : code ≡ fixedCode idLength p) (z : code ≡ 0) (f : t ≡ octet p 1) (g : k ≡ kindOf t) (c : m ≡ mandatoryCheck idLength k p) where
+  module _ {code t : ℕ} {k : Kind} {m : Checked} (e : code ≡ fixedCode idLength p) (z : code ≡ 0) (f : t ≡ octet p 1) (g : k ≡ kindOf t)
+      (c : m ≡ mandatoryCheck idLength k p) where
     checked : byCheck m idLength k p ≡ readPacket idLength p
     unfolding readPacket
     checked =

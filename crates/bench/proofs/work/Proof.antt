@@ -14,11 +14,17 @@ abbrev μ-loop : tie.MeasureT-loop
 
 step-requires : tie.Need-step-requires Inv-loop μ-loop
 step-requires c κs =
-    let p = c .before .before .before .before .before .before .before .before .before .pre in
-    (c .before .before .before .loop .inv ∙ c .before .before .before .before .before .before .fill .kept .0 ∙ p .0, p .1)
+    let at-loop = c .before .before .before in
+    let at-fill = at-loop .before .before .before in
+    let start = at-fill .before .before .before in
+    let p = start .pre in
+    (at-loop .loop .inv ∙ at-fill .fill .kept .0 ∙ p .0, p .1)
 
 loop-again : tie.Need-loop-again Inv-loop μ-loop
-loop-again c = c .before .before .before .step .kept .0 ∙ c .before .before .before .before .before .before .before .loop .inv
+loop-again c =
+    let at-step = c .before .before .before in
+    let at-loop = at-step .before .before .before .before in
+    at-step .step .kept .0 ∙ at-loop .loop .inv
 
 same-length : tie.Need-same-length Inv-loop μ-loop
 same-length c = c .before .loop .inv ∙ c .before .before .before .before .fill .kept .0

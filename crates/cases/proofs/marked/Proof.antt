@@ -13,7 +13,8 @@ use Rattle.cases.proofs.marked.Statement.{statement}
 use Rattle.cases.proofs.marked.Tie as tie
 
 returns : tie.Need-returns
-unfolding cases codeOf step acted packetOf layout mandatory recordsOctets recordOctets receiversOctets total readPacket fixedCode mandatoryCheck headCheck elementsCheck elementCheck
+unfolding cases codeOf step acted packetOf layout mandatory recordsOctets recordOctets receiversOctets total readPacket fixedCode mandatoryCheck headCheck
+    elementsCheck elementCheck
 returns c = rw (lt-ltb _ _ (c .before .if1 .taken))
 
 returns-2 : tie.Need-returns-2

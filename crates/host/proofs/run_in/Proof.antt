@@ -9,7 +9,8 @@ cast-result : tie.Need-cast-result
 cast-result c = record { fits = omega (arith, few-used (c .before .before .before .before .run .last .1 .0) (c .rows-used .ensures)) }
 
 returns : tie.Need-returns
-returns c = ran (c .before .before .before .before .run .ensures) (sym (c .before .before .before .is-taken .ensures) ∙ c .before .before .if1 .taken) (c .rows-used .ensures)
+returns c = ran (c .before .before .before .before .run .ensures) (sym (c .before .before .before .is-taken .ensures) ∙ c .before .before .if1 .taken)
+    (c .rows-used .ensures)
 
 returns-2 : tie.Need-returns-2
 returns-2 c = ran-not (c .before .before .run .ensures) (sym (c .before .is-taken .ensures) ∙ c .if1 .left)

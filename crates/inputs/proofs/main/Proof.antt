@@ -13,8 +13,11 @@ abbrev μ-loop : tie.MeasureT-loop
 
 loop-again : tie.Need-loop-again Inv-loop μ-loop
 loop-again c =
-    let l = c .before .before .before .before .before .before .before .before .before .before .before .before .before .before .before .before .loop in
-    (c .before .before .before .before .before .before .before .before .before .before .before .before .before .read-full .kept .1 .0 ∙ l .inv .0, c .before .before .before .before .before .before .before .read .kept .0 ∙ l .inv .1)
+    let at-read = c .before .before .before .before .before .before .before in
+    let at-read-full = at-read .before .before .before .before .before .before in
+    let at-loop = at-read-full .before .before .before in
+    let l = at-loop .loop in
+    (at-read-full .read-full .kept .1 .0 ∙ l .inv .0, at-read .read .kept .0 ∙ l .inv .1)
 
 pub main-spec : {M : Type 1} → statement M
 main-spec =

@@ -6,7 +6,14 @@ use Rattle.limits.proofs.put_summary.Statement.{statement}
 use Rattle.limits.proofs.put_summary.Tie as tie
 
 put-record-requires : tie.Need-put-record-requires
-put-record-requires c κs = ((omega arith, omega arith), (omega (arith, ap length (c .before .before .first .ensures)), c .before .before .before .before .before .pre))
+put-record-requires c κs = (
+  (omega arith, omega arith),
+  (
+    omega (arith, ap length (c .before .before .first .ensures)),
+    c .before .before .before .before
+        .before .pre,
+  ),
+)
 
 returns : tie.Need-returns
 returns c = omega (arith, c .before .before .put-record .ensures .1, ap length (c .before .before .before .before .before .first .ensures))

@@ -9,7 +9,8 @@ returns : tie.Need-returns
 returns c = direct (c .before .before .args .n .0) (record { sfits = c .before .struct-told .given .0 .1 }) (c .if1 .taken) .1
 
 cast-result-2 : tie.Need-cast-result-2
-cast-result-2 c = let d = turned (c .before .before .args .n .0) (record { sfits = c .before .struct-told .given .0 .1 }) (c .if1 .left) .0 in (d .sign, d .fits)
+cast-result-2 c = let d = turned (c .before .before .args .n .0) (record { sfits = c .before .struct-told .given .0 .1 }) (c .if1 .left) .0 in
+    (d .sign, d .fits)
 
 returns-2 : tie.Need-returns-2
 returns-2 c = turned (c .before .before .args .n .0) (record { sfits = c .before .struct-told .given .0 .1 }) (c .if1 .left) .1

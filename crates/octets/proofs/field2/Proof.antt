@@ -28,7 +28,12 @@ cast-result-3 : tie.Need-cast-result-3
 cast-result-3 c = omega (arith, c .shared-slice-known3 .given (c .before .before .before .before .args .at + 1))
 
 add-result-2 : tie.Need-add-result-2
-add-result-2 c = omega (arith, c .shared-slice-known3 .given (c .before .before .before .before .args .at + 1), c .before .shared-slice-known2 .given (c .before .before .before .before .args .at))
+add-result-2 c = omega (
+  arith,
+  c .shared-slice-known3 .given (c .before .before .before .before .args .at + 1),
+  c .before .shared-slice-known2 .given
+      (c .before .before .before .before .args .at),
+)
 
 pub field2-spec : {M : Type 1} → statement M
 field2-spec =

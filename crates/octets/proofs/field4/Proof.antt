@@ -16,28 +16,85 @@ mul-result : tie.Need-mul-result
 mul-result c = omega (arith, c .shared-slice-known2 .given (c .before .before .before .before .args .at))
 
 cast-result-2 : tie.Need-cast-result-2
-cast-result-2 c = omega (arith, c .shared-slice-known3 .given (c .before .before .before .before .before .args .at), c .shared-slice-known3 .given (c .before .before .before .before .before .args .at + 1))
+cast-result-2 c = omega (
+  arith,
+  c .shared-slice-known3 .given (c .before .before .before .before .before .args .at),
+  c .shared-slice-known3 .given
+      (c .before .before .before .before .before .args .at + 1),
+)
 
 add-result-2 : tie.Need-add-result-2
-add-result-2 c = omega (arith, c .shared-slice-known3 .given (c .before .before .before .before .before .args .at), c .shared-slice-known3 .given (c .before .before .before .before .before .args .at + 1))
+add-result-2 c = omega (
+  arith,
+  c .shared-slice-known3 .given (c .before .before .before .before .before .args .at),
+  c .shared-slice-known3 .given
+      (c .before .before .before .before .before .args .at + 1),
+)
 
 mul-result-2 : tie.Need-mul-result-2
-mul-result-2 c = omega (arith, c .shared-slice-known3 .given (c .before .before .before .before .before .args .at), c .shared-slice-known3 .given (c .before .before .before .before .before .args .at + 1))
+mul-result-2 c = omega (
+  arith,
+  c .shared-slice-known3 .given (c .before .before .before .before .before .args .at),
+  c .shared-slice-known3 .given
+      (c .before .before .before .before .before .args .at + 1),
+)
 
 cast-result-3 : tie.Need-cast-result-3
-cast-result-3 c = omega (arith, c .shared-slice-known4 .given (c .before .before .before .before .before .before .args .at), c .shared-slice-known4 .given (c .before .before .before .before .before .before .args .at + 1), c .shared-slice-known4 .given (c .before .before .before .before .before .before .args .at + 2))
+cast-result-3 c =
+    let start = c .before .before .before .before .before .before in
+    omega (
+      arith,
+      c .shared-slice-known4 .given (start .args .at),
+      c .shared-slice-known4 .given (start .args .at + 1),
+      c .shared-slice-known4 .given
+          (start .args .at + 2),
+    )
 
 add-result-4 : tie.Need-add-result-4
-add-result-4 c = omega (arith, c .shared-slice-known4 .given (c .before .before .before .before .before .before .args .at), c .shared-slice-known4 .given (c .before .before .before .before .before .before .args .at + 1), c .shared-slice-known4 .given (c .before .before .before .before .before .before .args .at + 2))
+add-result-4 c =
+    let start = c .before .before .before .before .before .before in
+    omega (
+      arith,
+      c .shared-slice-known4 .given (start .args .at),
+      c .shared-slice-known4 .given (start .args .at + 1),
+      c .shared-slice-known4 .given
+          (start .args .at + 2),
+    )
 
 mul-result-3 : tie.Need-mul-result-3
-mul-result-3 c = omega (arith, c .shared-slice-known4 .given (c .before .before .before .before .before .before .args .at), c .shared-slice-known4 .given (c .before .before .before .before .before .before .args .at + 1), c .shared-slice-known4 .given (c .before .before .before .before .before .before .args .at + 2))
+mul-result-3 c =
+    let start = c .before .before .before .before .before .before in
+    omega (
+      arith,
+      c .shared-slice-known4 .given (start .args .at),
+      c .shared-slice-known4 .given (start .args .at + 1),
+      c .shared-slice-known4 .given
+          (start .args .at + 2),
+    )
 
 cast-result-4 : tie.Need-cast-result-4
-cast-result-4 c = omega (arith, c .shared-slice-known5 .given (c .before .before .before .before .before .before .before .args .at), c .shared-slice-known5 .given (c .before .before .before .before .before .before .before .args .at + 1), c .shared-slice-known5 .given (c .before .before .before .before .before .before .before .args .at + 2), c .shared-slice-known5 .given (c .before .before .before .before .before .before .before .args .at + 3))
+cast-result-4 c =
+    let start = c .before .before .before .before .before .before .before in
+    omega (
+      arith,
+      c .shared-slice-known5 .given (start .args .at),
+      c .shared-slice-known5 .given (start .args .at + 1),
+      c .shared-slice-known5 .given
+          (start .args .at + 2),
+      c .shared-slice-known5 .given (start .args .at + 3),
+    )
 
 add-result-6 : tie.Need-add-result-6
-add-result-6 c = omega (arith, c .shared-slice-known5 .given (c .before .before .before .before .before .before .before .args .at), c .shared-slice-known5 .given (c .before .before .before .before .before .before .before .args .at + 1), c .shared-slice-known5 .given (c .before .before .before .before .before .before .before .args .at + 2), c .shared-slice-known5 .given (c .before .before .before .before .before .before .before .args .at + 3))
+add-result-6 c =
+    let start = c .before .before .before .before .before .before .before in
+    omega (
+      arith,
+      c .shared-slice-known5 .given (start .args .at),
+      c .shared-slice-known5 .given (start .args .at + 1),
+      c .shared-slice-known5 .given
+          (start .args .at + 2),
+      c .shared-slice-known5 .given (start .args .at + 3),
+    )
 
 pub field4-spec : {M : Type 1} → statement M
 field4-spec =

@@ -28,14 +28,19 @@ returns c =
 
 returns-2 : tie.Need-returns-2 Inv-loop μ-loop
 returns-2 c =
-    let l = c .before .before .before .before .before .before .before .loop in
-    let x = c .before .before .before .before .before .before .before .before .args in
-    sym (l .inv .1 ∙ greater-step (x .a .now) (x .b .now) (l .i) (omega arith) (omega arith) ∙ rw (ne-eqb _ _ (c .before .before .if2 .taken)))
+    let at-if2 = c .before .before in
+    let at-loop = at-if2 .before .before .before .before .before in
+    let start = at-loop .before in
+    let l = at-loop .loop in
+    let x = start .args in
+    sym (l .inv .1 ∙ greater-step (x .a .now) (x .b .now) (l .i) (omega arith) (omega arith) ∙ rw (ne-eqb _ _ (at-if2 .if2 .taken)))
 
 loop-again : tie.Need-loop-again Inv-loop μ-loop
 loop-again c =
-    let l = c .before .before .before .before .before .loop in
-    let x = c .before .before .before .before .before .before .args in
+    let at-loop = c .before .before .before .before .before in
+    let start = at-loop .before in
+    let l = at-loop .loop in
+    let x = start .args in
     (omega arith, l .inv .1 ∙ greater-step (x .a .now) (x .b .now) (l .i) (omega arith) (omega arith) ∙ rw (eq-eqb _ _ (c .if2 .left)))
 
 returns-3 : tie.Need-returns-3 Inv-loop μ-loop

@@ -14,7 +14,8 @@ returns : tie.Need-returns
 returns c = let a = c .before .before .args in part-past (a .p .now) (a .at) (a .n) (c .before .if1 .taken)
 
 returns-2 : tie.Need-returns-2
-returns-2 c = let a = c .before .before .before .args in take-rest (a .p .now) (a .at) ∙ sym (take-all (a .n) (drop (a .at) (a .p .now)) (rw (length-drop (a .at) (a .p .now)) (omega (arith, c .before .if2 .taken))))
+returns-2 c = let a = c .before .before .before .args in take-rest (a .p .now) (a .at)
+    ∙ sym (take-all (a .n) (drop (a .at) (a .p .now)) (rw (length-drop (a .at) (a .p .now)) (omega (arith, c .before .if2 .taken))))
 
 returns-3 : tie.Need-returns-3
 returns-3 c = let a = c .before .before .before .args in let e : a .at + a .n - a .at ≡ a .n = omega arith in rw e

@@ -11,10 +11,13 @@ use Rattle.octets.proofs.put.Tie as tie
 returns : tie.Need-returns
 unfolding putAt
 returns c =
-    let a = c .before .before .before .before .before .before .args in
+    let at-copy = c .before .before in
+    let start = at-copy .before .before .before .before in
+    let a = start .args in
     record {
       next = refl;
-      octets = put-part (a .out .now) (a .src .now) (c .before .before .copy .last .1 .0) (a .at) (a .at + length (a .src .now)) (omega arith) (omega arith) (omega arith) (c .before .before .copy .ensures .1);
+      octets = put-part (a .out .now) (a .src .now) (at-copy .copy .last .1 .0) (a .at) (a .at + length (a .src .now)) (omega arith) (omega arith)
+          (omega arith) (at-copy .copy .ensures .1);
     }
 
 pub put-spec : {M : Type 1} → statement M

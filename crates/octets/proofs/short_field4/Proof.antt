@@ -6,9 +6,15 @@ use Rattle.octets.proofs.short_field4.Tie as tie
 
 returns : tie.Need-returns
 returns c =
-    let a = c .before .before .before .before .before .before .args in
-    let t = c .before .before .before .before .tail in
-    field4-read (a .p .now) (t .result .now) (a .at) (t .ensures) (c .before .before .before .octet .ensures) (c .before .before .octet2 .ensures) (c .before .octet3 .ensures) (c .octet4 .ensures)
+    let at-octet3 = c .before in
+    let at-octet2 = at-octet3 .before in
+    let at-octet = at-octet2 .before in
+    let at-tail = at-octet .before in
+    let start = at-tail .before .before in
+    let a = start .args in
+    let t = at-tail .tail in
+    field4-read (a .p .now) (t .result .now) (a .at) (t .ensures) (at-octet .octet .ensures) (at-octet2 .octet2 .ensures) (at-octet3 .octet3 .ensures)
+    (c .octet4 .ensures)
 
 pub short-field4-spec : {M : Type 1} → statement M
 short-field4-spec =

@@ -16,10 +16,16 @@ loop-holds : tie.Need-loop-holds Inv-loop μ-loop
 loop-holds c = refl
 
 same-length : tie.Need-same-length Inv-loop μ-loop
-same-length c = c .before .before .before .before .before .before .before .before .before .before .before .read-full .kept .1 .0 ∙ c .before .before .before .before .before .before .before .before .before .before .before .before .before .before .loop .inv
+same-length c =
+    let at-read-full = c .before .before .before .before .before .before .before .before .before .before .before in
+    let at-loop = at-read-full .before .before .before in
+    at-read-full .read-full .kept .1 .0 ∙ at-loop .loop .inv
 
 loop-again : tie.Need-loop-again Inv-loop μ-loop
-loop-again c = c .before .before .before .before .before .before .before .before .before .before .before .before .read-full .kept .1 .0 ∙ c .before .before .before .before .before .before .before .before .before .before .before .before .before .before .before .loop .inv
+loop-again c =
+    let at-read-full = c .before .before .before .before .before .before .before .before .before .before .before .before in
+    let at-loop = at-read-full .before .before .before in
+    at-read-full .read-full .kept .1 .0 ∙ at-loop .loop .inv
 
 pub rest-spec : {M : Type 1} → statement M
 rest-spec =

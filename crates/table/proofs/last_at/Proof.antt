@@ -6,7 +6,11 @@ use Rattle.table.proofs.last_at.Tie as tie
 
 returns : tie.Need-returns
 unfolding slotIn
-returns c = rw (c .number .ensures, c .before .before .flag3 .ensures, c .before .before .before .before .flag2 .ensures, c .before .before .before .before .before .before .flag .ensures)
+returns c =
+    let at-flag3 = c .before .before in
+    let at-flag2 = at-flag3 .before .before in
+    let at-flag = at-flag2 .before .before in
+    rw (c .number .ensures, at-flag3 .flag3 .ensures, at-flag2 .flag2 .ensures, at-flag .flag .ensures)
 
 pub last-at-spec : {M : Type 1} → statement M
 last-at-spec =

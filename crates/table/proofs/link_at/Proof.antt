@@ -6,7 +6,27 @@ use Rattle.table.proofs.link_at.Tie as tie
 
 returns : tie.Need-returns
 unfolding slotIn
-returns c = rw (c .flag .ensures, c .before .before .short2 .ensures, c .before .before .before .before .short .ensures, c .before .before .before .before .before .before .number2 .ensures, c .before .before .before .before .before .before .before .before .last-at .ensures, c .before .before .before .before .before .before .before .before .before .number .ensures, c .before .before .before .before .before .before .before .before .before .before .before .role .ensures, c .before .before .before .before .before .before .before .before .before .before .before .before .before .alignment-at .ensures, c .before .before .before .before .before .before .before .before .before .before .before .before .before .before .hello-at .ensures)
+returns c =
+    let at-short2 = c .before .before in
+    let at-short = at-short2 .before .before in
+    let at-number2 = at-short .before .before in
+    let at-last-at = at-number2 .before .before in
+    let at-number = at-last-at .before in
+    let at-role = at-number .before .before in
+    let at-alignment-at = at-role .before .before in
+    let at-hello-at = at-alignment-at .before in
+    rw (
+      c .flag .ensures,
+      at-short2 .short2 .ensures,
+      at-short .short .ensures,
+      at-number2 .number2 .ensures,
+      at-last-at .last-at .ensures,
+      at-number
+          .number .ensures,
+      at-role .role .ensures,
+      at-alignment-at .alignment-at .ensures,
+      at-hello-at .hello-at .ensures,
+    )
 
 pub link-at-spec : {M : Type 1} → statement M
 link-at-spec =

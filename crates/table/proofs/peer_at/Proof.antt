@@ -6,7 +6,11 @@ use Rattle.table.proofs.peer_at.Tie as tie
 
 returns : tie.Need-returns
 unfolding slotIn
-returns c = rw (c .octet4 .ensures, c .before .before .octet3 .ensures, c .before .before .before .before .octet2 .ensures, c .before .before .before .before .before .before .octet .ensures)
+returns c =
+    let at-octet3 = c .before .before in
+    let at-octet2 = at-octet3 .before .before in
+    let at-octet = at-octet2 .before .before in
+    rw (c .octet4 .ensures, at-octet3 .octet3 .ensures, at-octet2 .octet2 .ensures, at-octet .octet .ensures)
 
 pub peer-at-spec : {M : Type 1} → statement M
 peer-at-spec =

@@ -5,7 +5,20 @@ use Rattle.table.proofs.slot_at.Tie as tie
 
 returns : tie.Need-returns
 unfolding slotIn
-returns c = rw (c .short .ensures, c .before .before .number .ensures, c .before .before .before .before .before .used-at .ensures, c .before .before .before .before .before .before .timers-at .ensures, c .before .before .before .before .before .before .before .link-at .ensures, c .before .before .before .before .before .before .before .before .peer-at .ensures)
+returns c =
+    let at-number = c .before .before in
+    let at-used-at = at-number .before .before .before in
+    let at-timers-at = at-used-at .before in
+    let at-link-at = at-timers-at .before in
+    let at-peer-at = at-link-at .before in
+    rw (
+      c .short .ensures,
+      at-number .number .ensures,
+      at-used-at .used-at .ensures,
+      at-timers-at .timers-at .ensures,
+      at-link-at .link-at .ensures,
+      at-peer-at .peer-at .ensures,
+    )
 
 pub slot-at-spec : {M : Type 1} → statement M
 slot-at-spec =

@@ -6,7 +6,11 @@ use Rattle.table.proofs.timers_at.Tie as tie
 
 returns : tie.Need-returns
 unfolding slotIn
-returns c = rw (c .last-sent4 .ensures, c .before .before .last-sent3 .ensures, c .before .before .before .before .last-sent2 .ensures, c .before .before .before .before .before .before .last-sent .ensures)
+returns c =
+    let at-last-sent3 = c .before .before in
+    let at-last-sent2 = at-last-sent3 .before .before in
+    let at-last-sent = at-last-sent2 .before .before in
+    rw (c .last-sent4 .ensures, at-last-sent3 .last-sent3 .ensures, at-last-sent2 .last-sent2 .ensures, at-last-sent .last-sent .ensures)
 
 pub timers-at-spec : {M : Type 1} → statement M
 timers-at-spec =

@@ -21,7 +21,8 @@ returns c =
     let start = octets .before .before .before .before .before .before .before .before .before .before .before .before in
     λ z. record {
       used = (octets .before .before .before .before .of-flag .ensures) z;
-      peer = ((λ y. (octets .before .before .before .of-octet .ensures) y ∷ (octets .before .before .of-octet2 .ensures) y ∷ (octets .before .of-octet3 .ensures) y ∷ (octets .of-octet4 .ensures) y ∷ []) ∙ four-octets start) z;
+      peer = ((λ y. (octets .before .before .before .of-octet .ensures) y ∷ (octets .before .before .of-octet2 .ensures) y ∷
+          (octets .before .of-octet3 .ensures) y ∷ (octets .of-octet4 .ensures) y ∷ []) ∙ four-octets start) z;
       link = record {
         hello = (sizes .before .before .before .of-hello .ensures) z;
         heard = (sizes .before .before .of-number .ensures) z;
@@ -32,11 +33,22 @@ returns c =
         number = record { 0 = (numbers .before .of-number2 .ensures) z };
         last = record {
           number = record { 0 = (numbers .of-number3 .ensures) z };
-          flags = record { master = (flags .before .before .before .of-flag2 .ensures) z; initial = (flags .before .before .of-flag3 .ensures) z; more = (flags .before .of-flag4 .ensures) z };
+          flags = record {
+            master = (flags .before .before .before .of-flag2 .ensures) z;
+            initial = (flags .before .before .of-flag3 .ensures) z;
+            more =
+                (flags .before .of-flag4 .ensures) z;
+          };
         };
         more = (flags .of-flag5 .ensures) z;
       };
-      timers = record { hello = (times .before .before .before .of-last .ensures) z; ca = (times .before .before .of-last2 .ensures) z; csus = (times .before .of-last3 .ensures) z; update = (times .of-last4 .ensures) z };
+      timers = record {
+        hello = (times .before .before .before .of-last .ensures) z;
+        ca = (times .before .before .of-last2 .ensures) z;
+        csus =
+            (times .before .of-last3 .ensures) z;
+        update = (times .of-last4 .ensures) z;
+      };
       listed = start .args .x .listed;
       cursor = (c .before .of-number4 .ensures) z;
       missed = (c .of-short3 .ensures) z;

@@ -13,7 +13,9 @@ abbrev μ-loop : tie.MeasureT-loop
 μ-loop slots₀ memory₀ head₀ turns₀ slots memory head turns = turns
 
 loop-again : tie.Need-loop-again Inv-loop μ-loop
-loop-again c = omega (arith, c .before .before .before .before .before .before .before .read-full .kept)
+loop-again c =
+    let at-read-full = c .before .before .before .before .before .before .before in
+    omega (arith, at-read-full .read-full .kept)
 
 pub main-spec : {M : Type 1} → statement M
 main-spec =

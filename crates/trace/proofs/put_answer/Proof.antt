@@ -11,7 +11,8 @@ use Rattle.trace.proofs.put_answer.Tie as tie
 -- how many octets there are
 few : (c : tie.After-first) → length (c .first .result .now) ≤ 284
 few c =
-    let a = c .before .before .before .before .before .before .before .before .before .args in
+    let start = c .before .before .before .before .before .before .before .before .before in
+    let a = start .args in
     omega (arith, ap length (c .first .ensures), take-short (a .a .written) (a .out .now) .1)
 
 put-octets-requires : tie.Need-put-octets-requires

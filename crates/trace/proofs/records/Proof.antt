@@ -14,7 +14,9 @@ abbrev μ-loop : tie.MeasureT-loop
 μ-loop slots₀ memory₀ count input₀ x₀ i₀ slots memory input x i = count - i
 
 loop-again : tie.Need-loop-again Inv-loop μ-loop
-loop-again c = omega (arith, c .before .before .before .before .before .before .read-full .kept)
+loop-again c =
+    let at-read-full = c .before .before .before .before .before .before in
+    omega (arith, at-read-full .read-full .kept)
 
 pub records-spec : {M : Type 1} → statement M
 records-spec =

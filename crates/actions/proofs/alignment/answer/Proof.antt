@@ -11,16 +11,30 @@ use Rattle.actions.proofs.alignment.answer.Tie as tie
 
 send-answer-requires : tie.Need-send-answer-requires
 send-answer-requires c κs =
-    let p = c .before .before .before .before .before .before .before .before .before .before .before .before .before .before .pre in
-    let picks = c .before .before .before .before .before .before .before .before .next-used .ensures in
-    ((c .before .before .before .before .taken-in .kept .0 ∙ p .0 .0, p .0 .1), (picks .few, picks .full))
+    let at-taken-in = c .before .before .before .before in
+    let at-next-used = at-taken-in .before .before .before .before in
+    let start = at-next-used .before .before .before .before .before .before in
+    let p = start .pre in
+    let picks = at-next-used .next-used .ensures in
+    ((at-taken-in .taken-in .kept .0 ∙ p .0 .0, p .0 .1), (picks .few, picks .full))
 
 returns : tie.Need-returns
 returns c =
-    let a = c .before .before .before .before .before .before .before .before .before .before .before .before .before .before .before .before .before .before .before .args in
-    let pre = c .before .before .before .before .before .before .before .before .before .before .before .before .before .before .before .before .before .before .before .pre in
+    let at-send-answer = c .before .before .before .before in
+    let at-taken-in = at-send-answer .before .before .before .before .before in
+    let at-link-after = at-taken-in .before .before in
+    let at-next-used = at-link-after .before .before in
+    let at-answer-from = at-next-used .before in
+    let start = at-answer-from .before .before .before .before .before in
+    let a = start .args in
+    let pre = start .pre in
     let m = memoryOf (a .memory .now) in
-    answer-acts (ruleOf (a .rule)) (pre .1 .1) (a .k) (a .time) (settingsOf (a .s)) (a .p .now) (a .h) (a .x) (a .memory .now) (c .before .before .before .before .before .before .before .before .before .taken-in .result) (c .before .before .before .before .before .before .before .before .before .before .before .link-after .result) (c .before .before .before .before .before .before .before .before .before .before .before .before .before .next-used .result) (c .before .before .before .before .before .before .before .before .before .before .before .before .before .before .answer-from .result) (c .before .before .before .before .before .before .before .before .before .taken-in .last .0) (c .before .before .before .before .send-answer .last .1 .0) (a .out .now) (c .before .before .before .before .send-answer .last .1 .1 .1 .1 .1 .1 .0) (c .before .before .before .before .send-answer .result) (pre .0 .1 .0) (c .before .before .before .before .before .before .before .before .before .before .before .before .before .before .answer-from .ensures (requestsOf m (a .k)) (keptOf m (a .k))) (c .before .before .before .before .before .before .before .before .before .before .before .before .before .next-used .ensures) (c .before .before .before .before .before .before .before .before .before .before .before .link-after .ensures (messageOf (a .p .now) (a .h) .sender) (isEmpty (recordsOf (a .p .now) (a .h .records)))) (c .before .before .before .before .before .before .before .before .before .taken-in .ensures) (c .before .before .before .before .send-answer .ensures)
+    answer-acts (ruleOf (a .rule)) (pre .1 .1) (a .k) (a .time) (settingsOf (a .s)) (a .p .now) (a .h) (a .x) (a .memory .now)
+    (at-taken-in .taken-in .result) (at-link-after .link-after .result) (at-next-used .next-used .result) (at-answer-from .answer-from .result)
+    (at-taken-in .taken-in .last .0) (at-send-answer .send-answer .last .1 .0) (a .out .now) (at-send-answer .send-answer .last .1 .1 .1 .1 .1 .1 .0)
+    (at-send-answer .send-answer .result) (pre .0 .1 .0) (at-answer-from .answer-from .ensures (requestsOf m (a .k)) (keptOf m (a .k)))
+    (at-next-used .next-used .ensures) (at-link-after .link-after .ensures (messageOf (a .p .now) (a .h) .sender)
+    (isEmpty (recordsOf (a .p .now) (a .h .records)))) (at-taken-in .taken-in .ensures) (at-send-answer .send-answer .ensures)
 
 pub answer-spec : {M : Type 1} → statement M
 answer-spec =

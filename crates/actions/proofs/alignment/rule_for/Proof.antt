@@ -6,8 +6,14 @@ use Rattle.actions.proofs.alignment.rule_for.Tie as tie
 
 returns : tie.Need-returns
 returns c =
-    let a = c .before .before .before .before .before .before .before .before .before .before .args in
-    rule-here (a .id .now) (a .p .now) (a .memory .now) (c .before .before .sender .result .now) (a .h) (a .k) (a .x) (c .before .before .before .before .before .before .head-of .result) (c .before .before .before .before .before .kept-len .result) (ruleOf (c .ca-rule .result)) (c .before .before .before .before .before .before .before .before .before .before .pre .1) (c .before .before .before .before .before .before .head-of .ensures) (c .before .before .sender .ensures) (c .before .before .before .before .before .kept-len .ensures .0) (c .ca-rule .ensures)
+    let at-sender = c .before .before in
+    let at-kept-len = at-sender .before .before .before in
+    let at-head-of = at-kept-len .before in
+    let start = at-head-of .before .before .before .before in
+    let a = start .args in
+    rule-here (a .id .now) (a .p .now) (a .memory .now) (at-sender .sender .result .now) (a .h) (a .k) (a .x) (at-head-of .head-of .result)
+    (at-kept-len .kept-len .result) (ruleOf (c .ca-rule .result)) (start .pre .1) (at-head-of .head-of .ensures) (at-sender .sender .ensures)
+    (at-kept-len .kept-len .ensures .0) (c .ca-rule .ensures)
 
 pub rule-for-spec : {M : Type 1} → statement M
 rule-for-spec =

@@ -5,13 +5,25 @@ use Rattle.actions.proofs.alignment.send_answer.Statement.{statement}
 use Rattle.actions.proofs.alignment.send_answer.Tie as tie
 
 complete-requires : tie.Need-complete-requires
-complete-requires c κs = (c .before .before .before .before .before .before .before .send-ca .kept .0 ∙ c .before .before .before .before .before .before .before .before .before .before .before .before .before .before .before .before .before .pre .0 .0, c .before .before .before .before .before .before .before .before .before .before .before .before .before .before .before .before .before .pre .0 .1 .0)
+complete-requires c κs =
+    let at-send-ca = c .before .before .before .before .before .before .before in
+    let start = at-send-ca .before .before .before .before .before .before .before .before .before .before in
+    (at-send-ca .send-ca .kept .0 ∙ start .pre .0 .0, start .pre .0 .1 .0)
 
 returns : tie.Need-returns
 returns c =
-    let a = c .before .before .before .before .before .before .before .before .before .before .before .before .before .before .before .before .before .before .args in
-    let sent = c .before .before .before .before .before .before .before .before .send-ca in
-    answer-sent (a .k) (a .time) (a .s) (a .x) (a .picks) (a .memory .now) (sent .last .0) (a .out .now) (sent .last .1 .1 .1 .1 .1 .1 .0) (c .before .before .before .before .before .before .before .before .before .before .before .common .result) (c .before .before .before .before .before .before .before .before .before .before .flags-of .result) (c .before .before .before .with-listed .result) (c .before .before .ca-sent .result) (record { slot = c .complete .result; written = sent .result }) (c .before .before .before .before .before .before .before .before .before .before .before .before .before .before .before .before .before .before .pre .0 .1 .0) (c .before .before .before .before .before .before .before .before .before .before .before .common .ensures) (c .before .before .before .before .before .before .before .before .before .before .flags-of .ensures) (sent .ensures) (c .before .before .before .with-listed .ensures) (c .before .before .ca-sent .ensures) (c .complete .ensures)
+    let at-ca-sent = c .before .before in
+    let at-with-listed = at-ca-sent .before in
+    let at-send-ca = at-with-listed .before .before .before .before .before in
+    let at-flags-of = at-send-ca .before .before in
+    let at-common = at-flags-of .before in
+    let start = at-common .before .before .before .before .before .before .before in
+    let a = start .args in
+    let sent = at-send-ca .send-ca in
+    answer-sent (a .k) (a .time) (a .s) (a .x) (a .picks) (a .memory .now) (sent .last .0) (a .out .now) (sent .last .1 .1 .1 .1 .1 .1 .0)
+    (at-common .common .result) (at-flags-of .flags-of .result) (at-with-listed .with-listed .result) (at-ca-sent .ca-sent .result)
+    (record { slot = c .complete .result; written = sent .result }) (start .pre .0 .1 .0) (at-common .common .ensures) (at-flags-of .flags-of .ensures)
+    (sent .ensures) (at-with-listed .with-listed .ensures) (at-ca-sent .ca-sent .ensures) (c .complete .ensures)
 
 pub send-answer-spec : {M : Type 1} → statement M
 send-answer-spec =

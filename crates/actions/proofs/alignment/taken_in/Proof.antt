@@ -6,8 +6,13 @@ use Rattle.actions.proofs.alignment.taken_in.Tie as tie
 
 returns : tie.Need-returns
 returns c =
-    let a = c .before .before .before .before .before .before .before .before .before .args in
-    took-in (a .k) (recordsOf (a .p .now) (a .h .records)) (a .l) (a .x) (c .before .with-link .result) (c .with-missed .result) (a .memory .now) (c .before .before .before .before .take-all .last .0) (c .before .before .before .before .take-all .result) (c .before .before .before .before .take-all .ensures) (c .before .with-link .ensures) (c .with-missed .ensures)
+    let at-with-link = c .before in
+    let at-take-all = at-with-link .before .before .before in
+    let start = at-take-all .before .before .before .before .before in
+    let a = start .args in
+    took-in (a .k) (recordsOf (a .p .now) (a .h .records)) (a .l) (a .x) (at-with-link .with-link .result) (c .with-missed .result) (a .memory .now)
+    (at-take-all .take-all .last .0) (at-take-all .take-all .result) (at-take-all .take-all .ensures) (at-with-link .with-link .ensures)
+    (c .with-missed .ensures)
 
 pub taken-in-spec : {M : Type 1} → statement M
 taken-in-spec =

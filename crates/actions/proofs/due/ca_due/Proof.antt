@@ -11,12 +11,14 @@ use Rattle.actions.proofs.due.ca_due.Tie as tie
 returns : tie.Need-returns
 returns c =
     let a = c .before .before .before .before .args in
-    plan-if (passed 5 (slotIn (a .slots .now) (a .k) .timers .ca) (a .time)) true (a .due) (a .due) (c .plan-for .result) refl (sym (c .before .before .ca-passed .ensures) ∙ c .before .if1 .taken) (c .plan-for .ensures)
+    plan-if (passed 5 (slotIn (a .slots .now) (a .k) .timers .ca) (a .time)) true (a .due) (a .due) (c .plan-for .result) refl
+    (sym (c .before .before .ca-passed .ensures) ∙ c .before .if1 .taken) (c .plan-for .ensures)
 
 returns-2 : tie.Need-returns-2
 returns-2 c =
     let a = c .before .before .before .before .args in
-    plan-if (passed 5 (slotIn (a .slots .now) (a .k) .timers .ca) (a .time)) false (a .due) Nothing (c .plan-for2 .result) refl (sym (c .before .before .ca-passed .ensures) ∙ c .before .if1 .left) (c .plan-for2 .ensures)
+    plan-if (passed 5 (slotIn (a .slots .now) (a .k) .timers .ca) (a .time)) false (a .due) Nothing (c .plan-for2 .result) refl
+    (sym (c .before .before .ca-passed .ensures) ∙ c .before .if1 .left) (c .plan-for2 .ensures)
 
 pub ca-due-spec : {M : Type 1} → statement M
 ca-due-spec =

@@ -13,19 +13,32 @@ use Rattle.actions.proofs.due.due_of.Tie as tie
 
 returns : tie.Need-returns
 returns c =
-    let a = c .before .before .before .before .before .before .before .args in
+    let at-if1 = c .before in
+    let at-passed = at-if1 .before in
+    let at-hello-sent-at = at-passed .before in
+    let start = at-hello-sent-at .before .before .before .before in
+    let a = start .args in
     let x = slotIn (a .slots .now) (a .k) in
-    let due = passed-at (a .s .interval) (a .time) _ _ _ (c .before .before .passed .ensures) (c .before .before .before .hello-sent-at .ensures) in
-    due-first (a .k) x (a .memory .now) (c .plan-for .result) (passed (a .s .interval) (x .timers .hello) (a .time)) (dueIn (a .time) (rowsIn (a .memory .now)) (a .k) (slotNow (a .slots .now) (a .k) (a .memory .now)) (x .link .alignment)) Hello tt (sym due ∙ c .before .if1 .taken) (c .plan-for .ensures)
+    let due = passed-at (a .s .interval) (a .time) _ _ _ (at-passed .passed .ensures) (at-hello-sent-at .hello-sent-at .ensures) in
+    due-first (a .k) x (a .memory .now) (c .plan-for .result) (passed (a .s .interval) (x .timers .hello) (a .time))
+    (dueIn (a .time) (rowsIn (a .memory .now)) (a .k) (slotNow (a .slots .now) (a .k) (a .memory .now)) (x .link .alignment)) Hello tt
+    (sym due ∙ at-if1 .if1 .taken) (c .plan-for .ensures)
 
 returns-2 : tie.Need-returns-2
 returns-2 c =
-    let a = c .before .before .before .before .before .before .before .before .args in
+    let at-alignment-at = c .before in
+    let at-if1 = at-alignment-at .before in
+    let at-passed = at-if1 .before in
+    let at-hello-sent-at = at-passed .before in
+    let start = at-hello-sent-at .before .before .before .before in
+    let a = start .args in
     let x = slotIn (a .slots .now) (a .k) in
     let y = slotNow (a .slots .now) (a .k) (a .memory .now) in
-    let due = passed-at (a .s .interval) (a .time) _ _ _ (c .before .before .before .passed .ensures) (c .before .before .before .before .hello-sent-at .ensures) in
-    due-other (a .k) x (a .memory .now) (c .due-in .result) (passed (a .s .interval) (x .timers .hello) (a .time)) (dueIn (a .time) (rowsIn (a .memory .now)) (a .k) y (x .link .alignment)) aHello (sym due ∙ c .before .before .if1 .left)
-    (in-state (a .time) (a .k) x (a .memory .now) y (c .due-in .result) (x .link .alignment) (c .before .alignment-at .result) (sym (c .before .alignment-at .ensures)) (c .due-in .ensures))
+    let due = passed-at (a .s .interval) (a .time) _ _ _ (at-passed .passed .ensures) (at-hello-sent-at .hello-sent-at .ensures) in
+    due-other (a .k) x (a .memory .now) (c .due-in .result) (passed (a .s .interval) (x .timers .hello) (a .time))
+    (dueIn (a .time) (rowsIn (a .memory .now)) (a .k) y (x .link .alignment)) aHello (sym due ∙ at-if1 .if1 .left)
+    (in-state (a .time) (a .k) x (a .memory .now) y (c .due-in .result) (x .link .alignment) (at-alignment-at .alignment-at .result)
+    (sym (at-alignment-at .alignment-at .ensures)) (c .due-in .ensures))
 
 pub due-of-spec : {M : Type 1} → statement M
 due-of-spec =

@@ -12,19 +12,29 @@ returns : tie.Need-returns
 returns c =
     let a = c .before .before .before .before .before .args in
     let x = slotIn (a .slots .now) (a .k) in
-    update-early (a .memory .now) (a .k) x (passed 1 (x .timers .update) (a .time)) (c .plan-for .result) (sym (c .before .before .update-passed .ensures) ∙ not-true (c .before .before .update-passed .result) (c .before .if1 .taken)) (c .plan-for .ensures)
+    update-early (a .memory .now) (a .k) x (passed 1 (x .timers .update) (a .time)) (c .plan-for .result)
+    (sym (c .before .before .update-passed .ensures) ∙ not-true (c .before .before .update-passed .result) (c .before .if1 .taken)) (c .plan-for .ensures)
 
 returns-2 : tie.Need-returns-2
 returns-2 c =
-    let a = c .before .before .before .before .before .before .before .before .args in
+    let at-if2 = c .before in
+    let at-next-rows = at-if2 .before .before in
+    let start = at-next-rows .before .before .before .before .before in
+    let a = start .args in
     let x = slotIn (a .slots .now) (a .k) in
-    update-none (a .memory .now) (a .k) x (c .before .before .before .next-rows .result) (c .before .before .before .next-rows .ensures) (passed 1 (x .timers .update) (a .time)) (c .plan-for2 .result) (c .before .if2 .taken) (c .plan-for2 .ensures)
+    update-none (a .memory .now) (a .k) x (at-next-rows .next-rows .result) (at-next-rows .next-rows .ensures) (passed 1 (x .timers .update) (a .time))
+    (c .plan-for2 .result) (at-if2 .if2 .taken) (c .plan-for2 .ensures)
 
 returns-3 : tie.Need-returns-3
 returns-3 c =
-    let a = c .before .before .before .before .before .before .before .args in
+    let at-next-rows = c .before .before in
+    let at-if1 = at-next-rows .before in
+    let at-update-passed = at-if1 .before in
+    let start = at-update-passed .before .before .before in
+    let a = start .args in
     let x = slotIn (a .slots .now) (a .k) in
-    update-some (a .memory .now) (a .k) x (c .before .before .next-rows .result) (c .before .before .next-rows .ensures) (passed 1 (x .timers .update) (a .time)) (sym (c .before .before .before .before .update-passed .ensures) ∙ not-false (c .before .before .before .before .update-passed .result) (c .before .before .before .if1 .left)) (c .if2 .left)
+    update-some (a .memory .now) (a .k) x (at-next-rows .next-rows .result) (at-next-rows .next-rows .ensures) (passed 1 (x .timers .update) (a .time))
+    (sym (at-update-passed .update-passed .ensures) ∙ not-false (at-update-passed .update-passed .result) (at-if1 .if1 .left)) (c .if2 .left)
 
 pub update-due-spec : {M : Type 1} → statement M
 update-due-spec =

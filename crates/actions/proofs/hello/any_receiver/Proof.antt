@@ -27,15 +27,32 @@ receiver-requires c κs = omega (arith, c .before .loop .inv .0)
 
 returns : tie.Need-returns Inv-loop μ-loop
 returns c =
-    let a = c .before .before .before .before .before .before .before .args in
-    let l = c .before .before .before .before .loop in
-    sym (l .inv .1 ∙ receiver-is (a .id .now) (a .p .now) (l .left) (l .at) (c .before .before .receiver .result .now) (c .before .same .result) (c .before .before .before .loop-test .taken) (c .before .before .receiver .ensures) (c .before .same .ensures) ∙ ap (λ (b : Bool). b || has (same (a .id .now)) (receiversAt idLength (a .p .now) (l .left - 1) (l .at + 5))) (c .if1 .taken))
+    let at-same = c .before in
+    let at-receiver = at-same .before in
+    let at-loop-test = at-receiver .before in
+    let at-loop = at-loop-test .before in
+    let start = at-loop .before .before .before in
+    let a = start .args in
+    let l = at-loop .loop in
+    sym (l .inv .1 ∙ receiver-is (a .id .now) (a .p .now) (l .left) (l .at) (at-receiver .receiver .result .now) (at-same .same .result)
+    (at-loop-test .loop-test .taken) (at-receiver .receiver .ensures) (at-same .same .ensures)
+    ∙ ap (λ (b : Bool). b || has (same (a .id .now)) (receiversAt idLength (a .p .now) (l .left - 1) (l .at + 5))) (c .if1 .taken))
 
 loop-again : tie.Need-loop-again Inv-loop μ-loop
 loop-again c =
-    let a = c .before .before .before .before .before .before .before .args in
-    let l = c .before .before .before .before .loop in
-    (omega (arith, l .inv .0, c .before .before .before .loop-test .taken), l .inv .1 ∙ receiver-is (a .id .now) (a .p .now) (l .left) (l .at) (c .before .before .receiver .result .now) (c .before .same .result) (c .before .before .before .loop-test .taken) (c .before .before .receiver .ensures) (c .before .same .ensures) ∙ ap (λ (b : Bool). b || has (same (a .id .now)) (receiversAt idLength (a .p .now) (l .left - 1) (l .at + 5))) (c .if1 .left))
+    let at-same = c .before in
+    let at-receiver = at-same .before in
+    let at-loop-test = at-receiver .before in
+    let at-loop = at-loop-test .before in
+    let start = at-loop .before .before .before in
+    let a = start .args in
+    let l = at-loop .loop in (
+      omega (arith, l .inv .0, at-loop-test .loop-test .taken),
+      l .inv .1
+          ∙ receiver-is (a .id .now) (a .p .now) (l .left) (l .at) (at-receiver .receiver .result .now) (at-same .same .result) (at-loop-test .loop-test .taken)
+          (at-receiver .receiver .ensures) (at-same .same .ensures) ∙ ap (λ (b : Bool). b || has (same (a .id .now))
+          (receiversAt idLength (a .p .now) (l .left - 1) (l .at + 5))) (c .if1 .left),
+    )
 
 returns-2 : tie.Need-returns-2 Inv-loop μ-loop
 returns-2 c =

@@ -11,13 +11,20 @@ use Rattle.actions.proofs.hello.take_hello.Tie as tie
 
 returns : tie.Need-returns
 returns c =
-    let a = c .before .before .before .before .before .before .before .before .before .before .before .before .before .before .args in
-    let t = c .before .before .before .before .hear in
+    let at-hear = c .before .before .before .before in
+    let at-dead-factor = at-hear .before .before .before in
+    let at-interval = at-dead-factor .before in
+    let at-names-us = at-interval .before in
+    let start = at-names-us .before .before .before .before .before in
+    let a = start .args in
+    let t = at-hear .hear in
     let p = a .p .now in
     let l = slotIn (a .slots .now) (a .k) .link in
-    to-link (a .k) (a .slots .now) (t .last .0) (a .memory .now) (t .last .1 .0) (helloMove (a .time) (c .before .before .before .before .before .before .before .before .interval .result) (c .before .before .before .before .before .before .before .dead-factor .result) (c .before .before .before .before .before .before .before .before .before .names-us .result) l)
+    to-link (a .k) (a .slots .now) (t .last .0) (a .memory .now) (t .last .1 .0)
+    (helloMove (a .time) (at-interval .interval .result) (at-dead-factor .dead-factor .result) (at-names-us .names-us .result) l)
     (helloMove (a .time) (field2 p 8) (field2 p 10) (namesUs (a .id .now) (messageOf p (a .h) .receiver) (receiversOf p (a .h .records))) l)
-    (λ z. helloMove (a .time) ((c .before .before .before .before .before .before .before .before .interval .ensures) z) ((c .before .before .before .before .before .before .before .dead-factor .ensures) z) ((c .before .before .before .before .before .before .before .before .before .names-us .ensures) z) l) (t .ensures)
+    (λ z. helloMove (a .time) ((at-interval .interval .ensures) z) ((at-dead-factor .dead-factor .ensures) z) ((at-names-us .names-us .ensures) z) l)
+    (t .ensures)
 
 pub take-hello-spec : {M : Type 1} → statement M
 take-hello-spec =

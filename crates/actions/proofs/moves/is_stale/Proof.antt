@@ -6,13 +6,24 @@ use Rattle.actions.proofs.moves.is_stale.Tie as tie
 
 returns : tie.Need-returns
 returns c =
-    let a = c .before .before .before .before .before .before .before .before .args in
-    stale-heard (slotIn (a .slots .now) (a .k) .link) (a .time) (c .before .before .before .before .before .before .hello-at .result) (c .before .before .before .before .before .hears-peer .result) (c .before .before .before .before .before .hears-peer .ensures) (c .before .before .before .before .before .before .hello-at .ensures) (c .before .before .before .interval-at .result) (c .before .before .factor-at .result) (c .before .heard-at .result) (c .stale .result) (c .before .before .before .before .if1 .taken) (c .before .before .before .interval-at .ensures) (c .before .before .factor-at .ensures) (c .before .heard-at .ensures) (c .stale .ensures)
+    let at-heard-at = c .before in
+    let at-factor-at = at-heard-at .before in
+    let at-interval-at = at-factor-at .before in
+    let at-if1 = at-interval-at .before in
+    let at-hears-peer = at-if1 .before in
+    let at-hello-at = at-hears-peer .before in
+    let start = at-hello-at .before .before in
+    let a = start .args in
+    stale-heard (slotIn (a .slots .now) (a .k) .link) (a .time) (at-hello-at .hello-at .result) (at-hears-peer .hears-peer .result)
+    (at-hears-peer .hears-peer .ensures) (at-hello-at .hello-at .ensures) (at-interval-at .interval-at .result) (at-factor-at .factor-at .result)
+    (at-heard-at .heard-at .result) (c .stale .result) (at-if1 .if1 .taken) (at-interval-at .interval-at .ensures) (at-factor-at .factor-at .ensures)
+    (at-heard-at .heard-at .ensures) (c .stale .ensures)
 
 returns-2 : tie.Need-returns-2
 returns-2 c =
     let a = c .before .before .before .before .args in
-    stale-not (slotIn (a .slots .now) (a .k) .link) (a .time) (c .before .before .hello-at .result) (c .before .hears-peer .result) (c .before .hears-peer .ensures) (c .before .before .hello-at .ensures) (c .if1 .left)
+    stale-not (slotIn (a .slots .now) (a .k) .link) (a .time) (c .before .before .hello-at .result) (c .before .hears-peer .result)
+    (c .before .hears-peer .ensures) (c .before .before .hello-at .ensures) (c .if1 .left)
 
 pub is-stale-spec : {M : Type 1} → statement M
 is-stale-spec =

@@ -10,7 +10,18 @@ use Rattle.actions.proofs.packets.write_ca.Statement.{statement}
 use Rattle.actions.proofs.packets.write_ca.Tie as tie
 
 returns : tie.Need-returns
-returns c = let a = c .before .before .before .before .before .before .before .before .before .before .before .args in let q = c .before .before .before .before .before .before .before .picked in let f = c .before .before .finish-ca in let rs = rowsOf summaryRecord (rowsIn (a .memory .now)) (picksOf (a .picks)) in (finish-wrote (ca (a .number) (a .flags)) (a .c) 32 rs 32 (a .out .now) (q .last .1 .1 .1 .0) (f .last .0) (q .result) (q .ensures) (omega arith) (c .before .before .before .before .before .before .before .before .before .before .before .pre .0 .1) (f .ensures), places-within 32 rs 32 (a .out .now) (q .last .1 .1 .1 .0) (q .result) (q .ensures) (omega arith) .1)
+returns c =
+    let at-finish-ca = c .before .before in
+    let at-picked = at-finish-ca .before .before .before .before .before in
+    let start = at-picked .before .before .before .before in
+    let a = start .args in
+    let q = at-picked .picked in
+    let f = at-finish-ca .finish-ca in
+    let rs = rowsOf summaryRecord (rowsIn (a .memory .now)) (picksOf (a .picks)) in (
+      finish-wrote (ca (a .number) (a .flags)) (a .c) 32 rs 32 (a .out .now) (q .last .1 .1 .1 .0) (f .last .0) (q .result) (q .ensures) (omega arith)
+          (start .pre .0 .1) (f .ensures),
+      places-within 32 rs 32 (a .out .now) (q .last .1 .1 .1 .0) (q .result) (q .ensures) (omega arith) .1,
+    )
 
 pub write-ca-spec : {M : Type 1} → statement M
 write-ca-spec =

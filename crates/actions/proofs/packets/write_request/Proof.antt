@@ -8,7 +8,13 @@ returns : tie.Need-returns
 returns c = let a = c .before .before .args in none-written csuRequest (a .c) (a .count) (a .n) (a .out .now) (c .if1 .taken)
 
 returns-2 : tie.Need-returns-2
-returns-2 c = let a = c .before .before .before .before .before .before .args in let f = c .before .before .finish-request in some-written csuRequest (a .c) (a .count) (a .n) (a .out .now) (f .last .0) (c .before .before .before .before .if1 .left) (f .ensures)
+returns-2 c =
+    let at-finish-request = c .before .before in
+    let at-if1 = at-finish-request .before .before in
+    let start = at-if1 .before .before in
+    let a = start .args in
+    let f = at-finish-request .finish-request in
+    some-written csuRequest (a .c) (a .count) (a .n) (a .out .now) (f .last .0) (at-if1 .if1 .left) (f .ensures)
 
 pub write-request-spec : {M : Type 1} → statement M
 write-request-spec =

@@ -10,7 +10,15 @@ use Rattle.actions.proofs.packets.write_update.Statement.{statement}
 use Rattle.actions.proofs.packets.write_update.Tie as tie
 
 returns : tie.Need-returns
-returns c = let a = c .before .before .before .before .before .before .before .before .before .before .before .args in let q = c .before .before .before .before .before .before .before .picked in let f = c .before .before .finish-request in finish-wrote csuRequest (a .c) 64 (rowsOf heldRecord (rowsIn (a .memory .now)) (picksOf (a .picks))) 28 (a .out .now) (q .last .1 .1 .1 .0) (f .last .0) (q .result) (q .ensures) (omega arith) (c .before .before .before .before .before .before .before .before .before .before .before .pre .0 .1) (f .ensures)
+returns c =
+    let at-finish-request = c .before .before in
+    let at-picked = at-finish-request .before .before .before .before .before in
+    let start = at-picked .before .before .before .before in
+    let a = start .args in
+    let q = at-picked .picked in
+    let f = at-finish-request .finish-request in
+    finish-wrote csuRequest (a .c) 64 (rowsOf heldRecord (rowsIn (a .memory .now)) (picksOf (a .picks))) 28 (a .out .now) (q .last .1 .1 .1 .0) (f .last .0)
+    (q .result) (q .ensures) (omega arith) (start .pre .0 .1) (f .ensures)
 
 pub write-update-spec : {M : Type 1} → statement M
 write-update-spec =

@@ -5,8 +5,11 @@ use Rattle.actions.proofs.parts.clear_if.Tie as tie
 
 returns : tie.Need-returns
 returns c =
-    let a = c .before .before .before .before .before .before .args in
-    cleared (a .k) (a .memory .now) (c .before .before .clear-slot .last .0) (a .entered) (c .before .before .before .before .if1 .taken) (c .before .before .clear-slot .ensures)
+    let at-clear-slot = c .before .before in
+    let at-if1 = at-clear-slot .before .before in
+    let start = at-if1 .before .before in
+    let a = start .args in
+    cleared (a .k) (a .memory .now) (at-clear-slot .clear-slot .last .0) (a .entered) (at-if1 .if1 .taken) (at-clear-slot .clear-slot .ensures)
 
 returns-2 : tie.Need-returns-2
 returns-2 c =

@@ -8,8 +8,12 @@ use Rattle.actions.proofs.parts.empty_if.Tie as tie
 
 returns : tie.Need-returns
 returns c =
-    let a = c .before .before .before .before .before .before .args in
-    emptied-as (a .k) (memoryOf (a .memory .now)) (memoryOf (c .before .before .empty-lists .last .0)) true (a .entered) (c .before .before .before .before .if1 .taken) (c .before .before .empty-lists .ensures)
+    let at-empty-lists = c .before .before in
+    let at-if1 = at-empty-lists .before .before in
+    let start = at-if1 .before .before in
+    let a = start .args in
+    emptied-as (a .k) (memoryOf (a .memory .now)) (memoryOf (at-empty-lists .empty-lists .last .0)) true (a .entered) (at-if1 .if1 .taken)
+    (at-empty-lists .empty-lists .ensures)
 
 returns-2 : tie.Need-returns-2
 returns-2 c =

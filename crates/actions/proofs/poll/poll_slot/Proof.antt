@@ -7,17 +7,27 @@ use Rattle.actions.proofs.poll.poll_slot.Statement.{statement}
 use Rattle.actions.proofs.poll.poll_slot.Tie as tie
 
 send-requires : tie.Need-send-requires
-send-requires c κs = ((c .before .before .before .before .before .before .before .before .before .before .before .before .before .before .before .check .kept .0 ∙ c .before .before .before .before .before .before .before .before .before .before .before .before .before .before .before .before .before .before .before .before .before .pre .0, (search needs, c .before .before .before .before .before .before .before .before .before .before .before .before .before .before .before .before .before .before .before .before .before .pre .1 .1)), c .before .before .before .due-of .ensures .rows)
+send-requires c κs =
+    let at-due-of = c .before .before .before in
+    let at-check = at-due-of .before .before .before .before .before .before .before .before .before .before .before .before in
+    let start = at-check .before .before .before .before .before .before in
+    ((at-check .check .kept .0 ∙ start .pre .0, (search needs, start .pre .1 .1)), at-due-of .due-of .ensures .rows)
 
 returns : tie.Need-returns
 returns c =
-    let start = c .before .before .before .before .before .before .before .before .before .before .before .before .before .before .before .before .before .before .before .before .before .before .before .before .before .before .before .before in
+    let at-send = c .before .before .before .before .before .before in
+    let at-due-of = at-send .before .before .before .before in
+    let at-drop-old = at-due-of .before .before .before .before .before in
+    let at-check = at-drop-old .before .before .before .before .before .before .before in
+    let start = at-check .before .before .before .before .before .before in
     let a = start .args in
-    let y = c .before .before .before .before .before .before .before .before .before .before .before .before .before .before .before .before .before .before .before .before .before .before .check in
-    let o = c .before .before .before .before .before .before .before .before .before .before .before .before .before .before .before .drop-old in
-    let d = c .before .before .before .before .before .before .before .before .before .before .due-of in
-    let t = c .before .before .before .before .before .before .send in
-    polled (settingsOf (a .s)) (a .time) (a .k) (a .slots .now) (y .last .0) (t .last .1 .0) (a .memory .now) (y .last .1 .0) (o .last .1 .0) (t .last .1 .1 .0) (a .out .now) (t .last .1 .1 .1 .1 .1 .1 .0) (d .result) (t .result) (start .pre .1 .1 .0) (y .ensures) (o .ensures) (d .ensures) (t .ensures)
+    let y = at-check .check in
+    let o = at-drop-old .drop-old in
+    let d = at-due-of .due-of in
+    let t = at-send .send in
+    polled (settingsOf (a .s)) (a .time) (a .k) (a .slots .now) (y .last .0) (t .last .1 .0) (a .memory .now) (y .last .1 .0) (o .last .1 .0)
+    (t .last .1 .1 .0) (a .out .now) (t .last .1 .1 .1 .1 .1 .1 .0) (d .result) (t .result) (start .pre .1 .1 .0) (y .ensures) (o .ensures) (d .ensures)
+    (t .ensures)
 
 pub poll-slot-spec : {M : Type 1} → statement M
 poll-slot-spec =

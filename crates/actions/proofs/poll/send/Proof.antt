@@ -6,10 +6,14 @@ use Rattle.actions.proofs.poll.send.Tie as tie
 
 returns : tie.Need-returns
 returns c =
-    let a = c .before .before .before .before .before .before .before .before .before .before .before .before .before .before .before .args in
-    let w = c .before .before .before .before .before .before .before .before .write-due in
-    let p = c .before .before .put-due in
-    sends (a .d .due) (a .k) (a .time) (settingsOf (a .s)) (a .d .picks) (a .slots .now) (p .last .0) (a .memory .now) (w .last .1 .1 .0) (a .out .now) (w .last .1 .1 .1 .1 .1 .0) (w .result) (c .before .before .before .before .before .before .before .before .before .before .before .before .before .before .before .pre .1) (w .ensures) (p .ensures)
+    let at-put-due = c .before .before in
+    let at-write-due = at-put-due .before .before .before .before .before .before in
+    let start = at-write-due .before .before .before .before .before .before .before in
+    let a = start .args in
+    let w = at-write-due .write-due in
+    let p = at-put-due .put-due in
+    sends (a .d .due) (a .k) (a .time) (settingsOf (a .s)) (a .d .picks) (a .slots .now) (p .last .0) (a .memory .now) (w .last .1 .1 .0) (a .out .now)
+    (w .last .1 .1 .1 .1 .1 .0) (w .result) (start .pre .1) (w .ensures) (p .ensures)
 
 pub send-spec : {M : Type 1} → statement M
 send-spec =

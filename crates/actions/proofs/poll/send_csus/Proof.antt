@@ -15,7 +15,23 @@ use Rattle.actions.proofs.poll.send_csus.Statement.{statement}
 use Rattle.actions.proofs.poll.send_csus.Tie as tie
 
 returns : tie.Need-returns
-returns c = let a = c .before .before .before .before .before .before .before .before .before .before .before .before .before .before .args in let w = c .before .before .before .before .before .before .write-csus in let m = c .before .before .before .before .before .before .before .before .before .common in record { memory = c .before .before .rotate .ensures; wrote = packet-as (packetOf (ourMessage (m .result) (csus (map requestRecord (take 4 (requestsIn (a .memory .now) (a .k))))))) (packetOf (csusOf (settingsOf (a .s)) (slotNow (a .slots .now) (a .k) (a .memory .now)))) (a .out .now) (w .last .1 .1 .1 .0) (w .result) (w .ensures) (csus-is (a .s) (slotIn (a .slots .now) (a .k)) (a .k) (a .memory .now) (m .result) (m .ensures ∙ ap (commonOf (a .s)) (c .before .before .before .before .before .before .before .before .before .before .peer-at .ensures)) (c .before .before .before .before .before .before .before .before .before .before .before .before .before .before .pre .1 .1 .0)) }
+returns c =
+    let at-rotate = c .before .before in
+    let at-write-csus = at-rotate .before .before .before .before in
+    let at-common = at-write-csus .before .before .before in
+    let at-peer-at = at-common .before in
+    let start = at-peer-at .before .before .before .before in
+    let a = start .args in
+    let w = at-write-csus .write-csus in
+    let m = at-common .common in
+    record {
+      memory = at-rotate .rotate .ensures;
+      wrote = packet-as (packetOf
+          (ourMessage (m .result) (csus (map requestRecord (take 4 (requestsIn (a .memory .now) (a .k)))))))
+          (packetOf (csusOf (settingsOf (a .s)) (slotNow (a .slots .now) (a .k) (a .memory .now)))) (a .out .now) (w .last .1 .1 .1 .0) (w .result)
+          (w .ensures) (csus-is (a .s) (slotIn (a .slots .now) (a .k)) (a .k) (a .memory .now) (m .result)
+          (m .ensures ∙ ap (commonOf (a .s)) (at-peer-at .peer-at .ensures)) (start .pre .1 .1 .0));
+    }
 
 pub send-csus-spec : {M : Type 1} → statement M
 send-csus-spec =

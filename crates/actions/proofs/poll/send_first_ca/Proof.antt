@@ -16,16 +16,29 @@ use Rattle.actions.proofs.poll.send_first_ca.Statement.{statement}
 use Rattle.actions.proofs.poll.send_first_ca.Tie as tie
 
 send-ca-requires : tie.Need-send-ca-requires
-send-ca-requires c κs = (c .before .before .before .before .before .before .before .before .before .pre .1, no-picks-fit (c .before .no-picks .result) (c .before .no-picks .ensures))
+send-ca-requires c κs =
+    let at-no-picks = c .before in
+    let start = at-no-picks .before .before .before .before .before .before .before .before in
+    (start .pre .1, no-picks-fit (at-no-picks .no-picks .result) (at-no-picks .no-picks .ensures))
 
 returns : tie.Need-returns
 returns c =
-    let a = c .before .before .before .before .before .before .before .before .before .before .before .before .before .before .args in
-    let n = c .before .before .before .before .before .before .no-picks in
-    let t = c .before .before .before .before .send-ca in
-    let head = c .before .before .before .before .before .before .before .before .common in
-    first-sent (a .s) (slotIn (a .slots .now) (a .k)) (a .k) (a .memory .now) (head .result) (head .ensures ∙ ap (commonOf (a .s)) (c .before .before .before .before .before .before .before .before .before .peer-at .ensures)) (n .result) (t .last .0) (a .out .now) (t .last .1 .1 .1 .1 .1 .1 .0) (t .result) (n .ensures)
-    (subst (λ (m : CaNumber). SendsCa (a .k) (packetOf (ourMessage (head .result) (ca m firstFlags (rowsOf summaryRecord (rowsIn (a .memory .now)) (picksOf (n .result)))))) (a .memory .now) (t .last .0) (a .out .now) (t .last .1 .1 .1 .1 .1 .1 .0) (t .result)) (c .before .before .before .before .before .before .before .before .before .before .number-at .ensures) (t .ensures))
+    let at-send-ca = c .before .before .before .before in
+    let at-no-picks = at-send-ca .before .before in
+    let at-common = at-no-picks .before .before in
+    let at-peer-at = at-common .before in
+    let at-number-at = at-peer-at .before in
+    let start = at-number-at .before .before .before .before in
+    let a = start .args in
+    let n = at-no-picks .no-picks in
+    let t = at-send-ca .send-ca in
+    let head = at-common .common in
+    first-sent (a .s) (slotIn (a .slots .now) (a .k)) (a .k) (a .memory .now) (head .result)
+    (head .ensures ∙ ap (commonOf (a .s)) (at-peer-at .peer-at .ensures)) (n .result) (t .last .0) (a .out .now) (t .last .1 .1 .1 .1 .1 .1 .0) (t .result)
+    (n .ensures)
+    (subst (λ (m : CaNumber). SendsCa (a .k) (packetOf (ourMessage (head .result)
+    (ca m firstFlags (rowsOf summaryRecord (rowsIn (a .memory .now)) (picksOf (n .result)))))) (a .memory .now) (t .last .0) (a .out .now)
+    (t .last .1 .1 .1 .1 .1 .1 .0) (t .result)) (at-number-at .number-at .ensures) (t .ensures))
 
 pub send-first-ca-spec : {M : Type 1} → statement M
 send-first-ca-spec =

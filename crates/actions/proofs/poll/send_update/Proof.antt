@@ -15,7 +15,18 @@ use Rattle.actions.proofs.poll.send_update.Statement.{statement}
 use Rattle.actions.proofs.poll.send_update.Tie as tie
 
 returns : tie.Need-returns
-returns c = let a = c .before .before .before .before .before .before .before .before .before .args in let w = c .before .before .write-update in let m = c .before .before .before .before .common in packet-as (packetOf (ourMessage (m .result) (csuRequest (rowsOf heldRecord (rowsIn (a .memory .now)) (picksOf (a .picks)))))) (packetOf (updateOf (settingsOf (a .s)) (rowsIn (a .memory .now)) (a .k) (slotNow (a .slots .now) (a .k) (a .memory .now)))) (a .out .now) (w .last .1 .1 .1 .0) (w .result) (w .ensures) (update-is (a .s) (slotIn (a .slots .now) (a .k)) (a .k) (a .memory .now) (m .result) (m .ensures ∙ ap (commonOf (a .s)) (c .before .before .before .before .before .peer-at .ensures)) (a .picks) (c .before .before .before .before .before .before .before .before .before .pre .1))
+returns c =
+    let at-write-update = c .before .before in
+    let at-common = at-write-update .before .before in
+    let at-peer-at = at-common .before in
+    let start = at-peer-at .before .before .before .before in
+    let a = start .args in
+    let w = at-write-update .write-update in
+    let m = at-common .common in
+    packet-as (packetOf (ourMessage (m .result) (csuRequest (rowsOf heldRecord (rowsIn (a .memory .now)) (picksOf (a .picks))))))
+    (packetOf (updateOf (settingsOf (a .s)) (rowsIn (a .memory .now)) (a .k) (slotNow (a .slots .now) (a .k) (a .memory .now)))) (a .out .now)
+    (w .last .1 .1 .1 .0) (w .result) (w .ensures) (update-is (a .s) (slotIn (a .slots .now) (a .k)) (a .k) (a .memory .now) (m .result)
+    (m .ensures ∙ ap (commonOf (a .s)) (at-peer-at .peer-at .ensures)) (a .picks) (start .pre .1))
 
 pub send-update-spec : {M : Type 1} → statement M
 send-update-spec =

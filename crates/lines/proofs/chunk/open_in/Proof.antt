@@ -7,13 +7,21 @@ use Rattle.lines.proofs.chunk.open_in.Tie as tie
 
 returns : tie.Need-returns
 returns c =
-    let began = c .before .before .before .before .before .before .begin .ensures in
-    opens began (good began (sym (c .before .before .before .before .before .is-taken .ensures) ∙ c .before .before .before .before .if1 .taken)) (c .before .before .put-line .ensures .0)
+    let at-put-line = c .before .before in
+    let at-if1 = at-put-line .before .before in
+    let at-is-taken = at-if1 .before in
+    let at-begin = at-is-taken .before in
+    let began = at-begin .begin .ensures in
+    opens began (good began (sym (at-is-taken .is-taken .ensures) ∙ at-if1 .if1 .taken)) (at-put-line .put-line .ensures .0)
 
 returns-2 : tie.Need-returns-2
 returns-2 c =
-    let began = c .before .before .before .before .before .before .begin .ensures in
-    opens-cut began (bad began (sym (c .before .before .before .before .before .is-taken .ensures) ∙ c .before .before .before .before .if1 .left)) (c .before .before .put-cut .ensures)
+    let at-put-cut = c .before .before in
+    let at-if1 = at-put-cut .before .before in
+    let at-is-taken = at-if1 .before in
+    let at-begin = at-is-taken .before in
+    let began = at-begin .begin .ensures in
+    opens-cut began (bad began (sym (at-is-taken .is-taken .ensures) ∙ at-if1 .if1 .left)) (at-put-cut .put-cut .ensures)
 
 pub open-in-spec : {M : Type 1} → statement M
 open-in-spec = tie.close (tie.spec

@@ -28,23 +28,33 @@ loop-holds c =
 
 one-requires : tie.Need-one-requires Inv-loop μ-loop
 one-requires c κs =
-    let l = c .before .before .before .before .before .before .loop in
+    let at-loop-test = c .before .before .before .before .before in
+    let at-loop = at-loop-test .before in
+    let l = at-loop .loop in
     let w = l .inv .3 in
-    omega (arith, l .inv .0, l .inv .1, w .put .next, w .fits, w .sum, c .before .before .before .before .before .loop-test .taken)
+    omega (arith, l .inv .0, l .inv .1, w .put .next, w .fits, w .sum, at-loop-test .loop-test .taken)
 
 add-at : tie.Need-add-at Inv-loop μ-loop
-add-at c = record { fits = omega (arith, c .before .before .before .before .before .before .before .before .before .before .loop .inv .2, c .before .before .before .before .before .before .before .before .before .before .before .before .before .before .good .1 .1 .1 .0, c .before .before .before .before .before .before .before .before .before .loop-test .taken) }
+add-at c =
+    let at-loop-test = c .before .before .before .before .before .before .before .before .before in
+    let at-loop = at-loop-test .before in
+    let at-good = at-loop .before .before .before .before in
+    record { fits = omega (arith, at-loop .loop .inv .2, at-good .good .1 .1 .1 .0, at-loop-test .loop-test .taken) }
 
 loop-again : tie.Need-loop-again Inv-loop μ-loop
 loop-again c =
-    let l = c .before .before .before .before .before .before .before .before .before .before .before .loop in
-    let a = c .before .before .before .before .before .before .before .before .before .before .before .before .before .before .before in
-    let made = c .before .before .before .before .one in
-    let first = c .before .before .before .before .before .before .before .part-of in
-    let less : l .left ≡ suc (l .left - 1) = omega (arith, c .before .before .before .before .before .before .before .before .before .before .loop-test .taken) in (
+    let at-one = c .before .before .before .before in
+    let at-part-of = at-one .before .before .before in
+    let at-loop-test = at-part-of .before .before .before in
+    let at-loop = at-loop-test .before in
+    let a = at-loop .before .before .before .before in
+    let l = at-loop .loop in
+    let made = at-one .one in
+    let first = at-part-of .part-of in
+    let less : l .left ≡ suc (l .left - 1) = omega (arith, at-loop-test .loop-test .taken) in (
       made .kept .1 .1 .1 .1 .1 .1 .0 ∙ l .inv .0,
       l .inv .1,
-      omega (arith, l .inv .2, c .before .before .before .before .before .before .before .before .before .before .loop-test .taken),
+      omega (arith, l .inv .2, at-loop-test .loop-test .taken),
       said-more (l .inv .3) _ (l .left - 1) (omega (arith, l .inv .1, a .pre)) (first .ensures) less (made .ensures) (c .wrapping-add-u64 .ensures),
       went-more (l .inv .4) _ (l .left - 1) _ _ _ (first .ensures) less (made .ensures .server) (made .ensures .host),
     )
@@ -56,13 +66,23 @@ put-cut-requires c κs =
     omega (arith, l .inv .0, l .inv .1, w .put .next, w .fits, w .sum)
 
 same-length : tie.Need-same-length Inv-loop μ-loop
-same-length c = c .before .before .put-cut .kept .0 ∙ c .before .before .before .before .before .before .loop .inv .0 ∙ sym (c .before .before .before .before .before .before .before .before .before .before .pre)
+same-length c =
+    let at-put-cut = c .before .before in
+    let at-loop = at-put-cut .before .before .before .before in
+    let start = at-loop .before .before .before .before in
+    at-put-cut .put-cut .kept .0 ∙ at-loop .loop .inv .0 ∙ sym (start .pre)
 
 returns : tie.Need-returns Inv-loop μ-loop
 returns c =
-    let l = c .before .before .before .before .before .before .loop in
-    let a = c .before .before .before .before .before .before .before .before .before .before in
-    chunks (c .before .before .before .before .before .before .before .records-in .ensures) (l .inv .3) (l .inv .4) (omega (arith, c .before .before .before .before .before .loop-test .left)) (omega (arith, l .inv .1, a .pre)) (c .before .before .before .ends-short .ensures) (c .before .before .put-cut .ensures)
+    let at-put-cut = c .before .before in
+    let at-ends-short = at-put-cut .before in
+    let at-loop-test = at-ends-short .before .before in
+    let at-loop = at-loop-test .before in
+    let at-records-in = at-loop .before in
+    let a = at-records-in .before .before .before in
+    let l = at-loop .loop in
+    chunks (at-records-in .records-in .ensures) (l .inv .3) (l .inv .4) (omega (arith, at-loop-test .loop-test .left)) (omega (arith, l .inv .1, a .pre))
+    (at-ends-short .ends-short .ensures) (at-put-cut .put-cut .ensures)
 
 pub replay-in-spec : {M : Type 1} → statement M
 replay-in-spec =

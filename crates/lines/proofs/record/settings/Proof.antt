@@ -10,7 +10,15 @@ array4-requires : tie.Need-array4-requires
 array4-requires c κs = ap length (c .id .ensures) ∙ part-length (c .before .before .args .r .now) 8 4 (omega (arith, c .before .before .pre))
 
 returns : tie.Need-returns
-returns c = rw (c .field24 .ensures, c .before .field23 .ensures, c .before .before .field22 .ensures, c .before .before .before .field2 .ensures, c .before .before .before .before .array4 .ensures, c .before .before .before .before .before .id .ensures)
+returns c = rw (
+  c .field24 .ensures,
+  c .before .field23 .ensures,
+  c .before .before .field22 .ensures,
+  c .before .before .before .field2 .ensures,
+  c .before
+      .before .before .before .array4 .ensures,
+  c .before .before .before .before .before .id .ensures,
+)
 
 pub settings-spec : {M : Type 1} → statement M
 settings-spec =

@@ -9,10 +9,17 @@ returns : tie.Need-returns
 returns c = runs-not (c .before .before .begin .ensures) (sym (c .before .is-taken .ensures) ∙ not-true (c .before .is-taken .result) (c .if1 .taken))
 
 run-from-requires : tie.Need-run-from-requires
-run-from-requires c κs = whole (c .before .before .before .before .begin .ensures) (sym (c .before .before .before .is-taken .ensures) ∙ not-false (c .before .before .before .is-taken .result) (c .before .before .if1 .left))
+run-from-requires c κs = whole (c .before .before .before .before .begin .ensures)
+    (sym (c .before .before .before .is-taken .ensures) ∙ not-false (c .before .before .before .is-taken .result) (c .before .before .if1 .left))
 
 returns-2 : tie.Need-returns-2
-returns-2 c = runs (c .before .before .before .before .before .before .begin .ensures) (sym (c .before .before .before .before .before .is-taken .ensures) ∙ not-false (c .before .before .before .before .before .is-taken .result) (c .before .before .before .before .if1 .left)) (c .before .run-from .ensures) (c .take .ensures)
+returns-2 c =
+    let at-run-from = c .before in
+    let at-if1 = at-run-from .before .before .before in
+    let at-is-taken = at-if1 .before in
+    let at-begin = at-is-taken .before in
+    runs (at-begin .begin .ensures) (sym (at-is-taken .is-taken .ensures) ∙ not-false (at-is-taken .is-taken .result) (at-if1 .if1 .left))
+    (at-run-from .run-from .ensures) (c .take .ensures)
 
 pub run-spec : {M : Type 1} → statement M
 run-spec =

@@ -25,9 +25,12 @@ loop-holds c = (omega arith, went-none _ _ _ _ _ _)
 
 loop-again : tie.Need-loop-again Inv-loop μ-loop
 loop-again c =
-    let l = c .before .before .before .before .before .before .before .loop in (
+    let at-take = c .before in
+    let at-part-of = at-take .before .before in
+    let at-loop = at-part-of .before .before .before .before in
+    let l = at-loop .loop in (
       omega arith,
-      went-more (l .inv .1) _ (l .left - 1) _ _ _ (c .before .before .before .part-of .ensures) (omega arith) (c .before .take .ensures .server) (c .before .take .ensures .host),
+      went-more (l .inv .1) _ (l .left - 1) _ _ _ (at-part-of .part-of .ensures) (omega arith) (at-take .take .ensures .server) (at-take .take .ensures .host),
     )
 
 returns : tie.Need-returns Inv-loop μ-loop
@@ -39,7 +42,8 @@ returns c =
     let e = sym (all-records (a .input .now)) in
     record {
       server = went-run w z ∙ ap (run (serverOf (a .s) (a .slots .now) (a .memory .now))) e;
-      host = λ k is h. subst (λ (es : List Event). Hosted k (l .x) (l .slots) (l .memory) (is ++ items (serverOf (a .s) (a .slots .now) (a .memory .now)) es)) e (went-host w z k is h);
+      host = λ k is h. subst (λ (es : List Event). Hosted k (l .x) (l .slots) (l .memory)
+          (is ++ items (serverOf (a .s) (a .slots .now) (a .memory .now)) es)) e (went-host w z k is h);
     }
 
 pub run-from-spec : {M : Type 1} → statement M

@@ -3,7 +3,13 @@ use Rattle.lines.proofs.take.packet_in.Statement.{statement}
 use Rattle.lines.proofs.take.packet_in.Tie as tie
 
 returns : tie.Need-returns
-returns c = rw (← (c .before .before .before .before .before .before .slot .ensures), ← (c .before .before .before .before .before .time .ensures), ← (c .before .before .before .before .packet .ensures), ← (c .before .before .before .before .before .before .before .before .before .before .before .pre)) (c .before .before .packet2 .ensures)
+returns c =
+    let at-packet2 = c .before .before in
+    let at-packet = at-packet2 .before .before in
+    let at-time = at-packet .before in
+    let at-slot = at-time .before in
+    let start = at-slot .before .before .before .before .before in
+    rw (← (at-slot .slot .ensures), ← (at-time .time .ensures), ← (at-packet .packet .ensures), ← (start .pre)) (at-packet2 .packet2 .ensures)
 
 pub packet-in-spec : {M : Type 1} → statement M
 packet-in-spec =

@@ -6,19 +6,56 @@ use Rattle.lines.proofs.take.take.Statement.{statement}
 use Rattle.lines.proofs.take.take.Tie as tie
 
 returns : tie.Need-returns
-returns c = takes-event (kind-1 (c .before .before .before .before .before .before .before .before .args .r .now) _ (c .before .before .before .before .before .before .kind .ensures) _ _ (c .before .before .slot .ensures) (c .before .time .ensures) (c .before .before .before .before .before .if1 .taken)) refl (c .link-up .ensures)
+returns c =
+    let at-time = c .before in
+    let at-slot = at-time .before in
+    let at-if1 = at-slot .before .before .before in
+    let at-kind = at-if1 .before in
+    let start = at-kind .before .before in
+    takes-event (kind-1 (start .args .r .now) _ (at-kind .kind .ensures) _ _ (at-slot .slot .ensures) (at-time .time .ensures) (at-if1 .if1 .taken)) refl
+    (c .link-up .ensures)
 
 returns-2 : tie.Need-returns-2
-returns-2 c = takes-event (kind-2 (c .before .before .before .before .before .before .before .before .before .args .r .now) _ (c .before .before .before .before .before .before .before .kind .ensures) _ _ (c .before .before .slot2 .ensures) (c .before .time2 .ensures) (c .before .before .before .before .before .before .if1 .left) (c .before .before .before .before .before .if2 .taken)) refl (c .link-down .ensures)
+returns-2 c =
+    let at-time2 = c .before in
+    let at-slot2 = at-time2 .before in
+    let at-if2 = at-slot2 .before .before .before in
+    let at-if1 = at-if2 .before in
+    let at-kind = at-if1 .before in
+    let start = at-kind .before .before in
+    takes-event (kind-2 (start .args .r .now) _ (at-kind .kind .ensures) _ _ (at-slot2 .slot2 .ensures) (at-time2 .time2 .ensures) (at-if1 .if1 .left)
+    (at-if2 .if2 .taken)) refl (c .link-down .ensures)
 
 returns-3 : tie.Need-returns-3
-returns-3 c = takes-out (kind-3 (c .before .before .before .before .before .before .before .before .before .args .r .now) _ (c .before .before .before .before .before .before .before .kind .ensures) (c .before .before .before .before .before .before .if1 .left) (c .before .before .before .before .before .if2 .left) (c .before .before .before .before .if3 .taken)) (c .packet-in .ensures)
+returns-3 c =
+    let at-if3 = c .before .before .before .before in
+    let at-if2 = at-if3 .before in
+    let at-if1 = at-if2 .before in
+    let at-kind = at-if1 .before in
+    let start = at-kind .before .before in
+    takes-out (kind-3 (start .args .r .now) _ (at-kind .kind .ensures) (at-if1 .if1 .left) (at-if2 .if2 .left) (at-if3 .if3 .taken)) (c .packet-in .ensures)
 
 returns-4 : tie.Need-returns-4
-returns-4 c = takes-out (kind-4 (c .before .before .before .before .before .before .before .before .before .before .args .r .now) _ (c .before .before .before .before .before .before .before .before .kind .ensures) (c .before .before .before .before .before .before .before .if1 .left) (c .before .before .before .before .before .before .if2 .left) (c .before .before .before .before .before .if3 .left) (c .before .before .before .before .if4 .taken)) (c .poll-in .ensures)
+returns-4 c =
+    let at-if4 = c .before .before .before .before in
+    let at-if3 = at-if4 .before in
+    let at-if2 = at-if3 .before in
+    let at-if1 = at-if2 .before in
+    let at-kind = at-if1 .before in
+    let start = at-kind .before .before in
+    takes-out (kind-4 (start .args .r .now) _ (at-kind .kind .ensures) (at-if1 .if1 .left) (at-if2 .if2 .left) (at-if3 .if3 .left) (at-if4 .if4 .taken))
+    (c .poll-in .ensures)
 
 returns-5 : tie.Need-returns-5
-returns-5 c = c .take-own .ensures _ (untimed (c .before .before .before .before .before .before .before .before .before .args .r .now) _ (c .before .before .before .before .before .before .before .kind .ensures) (c .before .before .before .before .before .before .if1 .left) (c .before .before .before .before .before .if2 .left) (c .before .before .before .before .if3 .left) (c .before .before .before .if4 .left))
+returns-5 c =
+    let at-if4 = c .before .before .before in
+    let at-if3 = at-if4 .before in
+    let at-if2 = at-if3 .before in
+    let at-if1 = at-if2 .before in
+    let at-kind = at-if1 .before in
+    let start = at-kind .before .before in
+    c .take-own .ensures _ (untimed (start .args .r .now) _ (at-kind .kind .ensures) (at-if1 .if1 .left) (at-if2 .if2 .left) (at-if3 .if3 .left)
+    (at-if4 .if4 .left))
 
 pub take-spec : {M : Type 1} → statement M
 take-spec =

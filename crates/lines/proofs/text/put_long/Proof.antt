@@ -16,17 +16,29 @@ put-requires : tie.Need-put-requires
 put-requires c κs = omega (arith, few (c .before .before), c .before .before .before .before .before .pre)
 
 slice-write-text : tie.Need-slice-write-text
-slice-write-text c = omega (arith, few (c .before .before .before .before .before), c .before .before .before .before .before .before .before .before .pre, c .before .before .put .ensures .next, c .before .before .put .kept)
+slice-write-text c =
+    let at-put = c .before .before in
+    let at-few = at-put .before .before .before in
+    let start = at-few .before .before .before in
+    omega (arith, few at-few, start .pre, at-put .put .ensures .next, at-put .put .kept)
 
 add-result : tie.Need-add-result
-add-result c = record { fits = omega (arith, few (c .before .before .before .before .before), c .before .before .before .before .before .before .before .before .pre, c .before .before .put .ensures .next) }
+add-result c =
+    let at-put = c .before .before in
+    let at-few = at-put .before .before .before in
+    let start = at-few .before .before .before in
+    record { fits = omega (arith, few at-few, start .pre, at-put .put .ensures .next) }
 
 returns : tie.Need-returns
 returns c =
-    let a = c .before .before .before .before .before .before .before .before .args in
-    let d = c .before .before .before .before .before .decimal in
-    number-put (a .n) (a .behind) (a .at) (d .result) (take (d .result) (d .last .1 .0)) (a .text .now) (c .before .before .put .last .0) (c .before .before .put .result) (c .before .before .before .before .before .before .before .before .pre)
-    (few (c .before .before .before .before .before)) (d .ensures .1 .0) (d .ensures .1 .1) (c .before .before .put .ensures)
+    let at-put = c .before .before in
+    let at-decimal = at-put .before .before .before in
+    let start = at-decimal .before .before .before in
+    let a = start .args in
+    let d = at-decimal .decimal in
+    number-put (a .n) (a .behind) (a .at) (d .result) (take (d .result) (d .last .1 .0)) (a .text .now) (at-put .put .last .0) (at-put .put .result)
+    (start .pre)
+    (few at-decimal) (d .ensures .1 .0) (d .ensures .1 .1) (at-put .put .ensures)
 
 pub put-long-spec : {M : Type 1} → statement M
 put-long-spec =

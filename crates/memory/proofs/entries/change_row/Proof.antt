@@ -11,7 +11,15 @@ use Rattle.memory.proofs.entries.change_row.Statement.{statement}
 use Rattle.memory.proofs.entries.change_row.Tie as tie
 
 returns : tie.Need-returns
-returns c = let a = c .before .before .before .before .before .before .before .before .before .args in c .before .before .put-value .ensures .0 ∙ ap (λ (r : Row). withRow (a .memory .now) (a .i) r) (changed-row (a .memory .now) (a .i) (isMarked (a .live)) (a .payload .now) (c .before .before .before .before .step-of .result) (c .before .before .before .before .step-of .ensures ∙ ap (λ (n : CsaNumber). stepped n (nextCsa n)) (c .before .before .before .before .before .number-of .ensures)))
+returns c =
+    let at-put-value = c .before .before in
+    let at-step-of = at-put-value .before .before in
+    let at-number-of = at-step-of .before in
+    let start = at-number-of .before .before .before .before in
+    let a = start .args in
+    at-put-value .put-value .ensures .0 ∙ ap (λ (r : Row). withRow (a .memory .now) (a .i) r)
+    (changed-row (a .memory .now) (a .i) (isMarked (a .live)) (a .payload .now) (at-step-of .step-of .result)
+    (at-step-of .step-of .ensures ∙ ap (λ (n : CsaNumber). stepped n (nextCsa n)) (at-number-of .number-of .ensures)))
 
 pub change-row-spec : {M : Type 1} → statement M
 change-row-spec =

@@ -13,9 +13,12 @@ clear-mark-requires c κs =
 
 returns : tie.Need-returns
 returns c =
-    let a = c .before .before .before .before .before .before .before .before .args in
-    let i = c .before .before .before .before .before .found .given in
-    found-marked (a .found) (a .memory .now) (unmarked (a .k)) (i .0 .0) (c .before .before .clear-mark .last .0) (i .1) (c .before .before .clear-mark .ensures)
+    let at-clear-mark = c .before .before in
+    let at-found = at-clear-mark .before .before .before in
+    let start = at-found .before .before .before in
+    let a = start .args in
+    let i = at-found .found .given in
+    found-marked (a .found) (a .memory .now) (unmarked (a .k)) (i .0 .0) (at-clear-mark .clear-mark .last .0) (i .1) (at-clear-mark .clear-mark .ensures)
 
 returns-2 : tie.Need-returns-2
 returns-2 c =

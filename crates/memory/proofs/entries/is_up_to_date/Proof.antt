@@ -9,15 +9,23 @@ use Rattle.memory.proofs.entries.is_up_to_date.Tie as tie
 
 number-of-requires : tie.Need-number-of-requires
 number-of-requires c κs =
-    let a = c .before .before .before .before .before .before .args in
-    let i = c .before .i .given in
-    (c .before .before .before .before .before .before .pre .0, found-below (holds (entryNamed (a .name .now))) (a .memory .now) (i .0 .0) (sym (c .before .before .before .find .ensures) ∙ i .1))
+    let at-i = c .before in
+    let at-find = at-i .before .before in
+    let start = at-find .before .before .before in
+    let a = start .args in
+    let i = at-i .i .given in
+    (start .pre .0, found-below (holds (entryNamed (a .name .now))) (a .memory .now) (i .0 .0) (sym (at-find .find .ensures) ∙ i .1))
 
 returns : tie.Need-returns
 returns c =
-    let a = c .before .before .before .before .before .before .before .before .args in
-    let i = c .before .before .before .i .given in
-    up-found (entryNamed (a .name .now)) (a .memory .now) (a .number) (c .before .number-of .result) (c .newer .result) (i .0 .0) (sym (c .before .before .before .before .before .find .ensures) ∙ i .1) (c .before .number-of .ensures) (c .newer .ensures)
+    let at-number-of = c .before in
+    let at-i = at-number-of .before .before in
+    let at-find = at-i .before .before in
+    let start = at-find .before .before .before in
+    let a = start .args in
+    let i = at-i .i .given in
+    up-found (entryNamed (a .name .now)) (a .memory .now) (a .number) (at-number-of .number-of .result) (c .newer .result) (i .0 .0)
+    (sym (at-find .find .ensures) ∙ i .1) (at-number-of .number-of .ensures) (c .newer .ensures)
 
 returns-2 : tie.Need-returns-2
 returns-2 c =

@@ -13,9 +13,12 @@ mark-again-requires c κs =
 
 returns : tie.Need-returns
 returns c =
-    let a = c .before .before .before .before .before .before .before .before .args in
-    let i = c .before .before .before .before .before .found .given in
-    found-marked (a .found) (a .memory .now) (waitsAgain (a .k)) (i .0 .0) (c .before .before .mark-again .last .0) (i .1) (c .before .before .mark-again .ensures .0)
+    let at-mark-again = c .before .before in
+    let at-found = at-mark-again .before .before .before in
+    let start = at-found .before .before .before in
+    let a = start .args in
+    let i = at-found .found .given in
+    found-marked (a .found) (a .memory .now) (waitsAgain (a .k)) (i .0 .0) (at-mark-again .mark-again .last .0) (i .1) (at-mark-again .mark-again .ensures .0)
 
 returns-2 : tie.Need-returns-2
 returns-2 c =

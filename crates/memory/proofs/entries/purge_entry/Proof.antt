@@ -7,14 +7,21 @@ use Rattle.memory.proofs.entries.purge_entry.Tie as tie
 
 purge-row-requires : tie.Need-purge-row-requires
 purge-row-requires c κs =
-    let i = c .before .before .found .given in
-    (c .before .before .before .before .before .pre .0, found-index (c .before .before .before .before .before .args .found) (i .0 .0) (c .before .before .before .before .before .pre .1) (i .1))
+    let i = c .before .before .found .given in (
+      c .before .before .before .before .before .pre .0,
+      found-index (c .before .before .before .before .before .args .found) (i .0 .0)
+          (c .before .before .before .before .before .pre .1) (i .1),
+    )
 
 returns : tie.Need-returns
 returns c =
-    let a = c .before .before .before .before .before .before .before .before .args in
-    let i = c .before .before .before .before .before .found .given in
-    found-changed (a .found) (a .memory .now) (purgedRow (isMarked (a .live))) (i .0 .0) (c .before .before .purge-row .last .0) (i .1) (c .before .before .purge-row .ensures)
+    let at-purge-row = c .before .before in
+    let at-found = at-purge-row .before .before .before in
+    let start = at-found .before .before .before in
+    let a = start .args in
+    let i = at-found .found .given in
+    found-changed (a .found) (a .memory .now) (purgedRow (isMarked (a .live))) (i .0 .0) (at-purge-row .purge-row .last .0) (i .1)
+    (at-purge-row .purge-row .ensures)
 
 returns-2 : tie.Need-returns-2
 returns-2 c =

@@ -8,7 +8,11 @@ use Rattle.memory.proofs.entries.purge_row.Statement.{statement}
 use Rattle.memory.proofs.entries.purge_row.Tie as tie
 
 returns : tie.Need-returns
-returns c = let a = c .before .before .before .before .before .before .args in c .before .before .put-value .ensures .0 ∙ ap (λ (r : Row). withRow (a .memory .now) (a .i) r) (purged-row (isMarked (a .live)) (rowIn (a .memory .now) (a .i)))
+returns c =
+    let at-put-value = c .before .before in
+    let start = at-put-value .before .before .before .before in
+    let a = start .args in
+    at-put-value .put-value .ensures .0 ∙ ap (λ (r : Row). withRow (a .memory .now) (a .i) r) (purged-row (isMarked (a .live)) (rowIn (a .memory .now) (a .i)))
 
 pub purge-row-spec : {M : Type 1} → statement M
 purge-row-spec =

@@ -12,25 +12,35 @@ use Rattle.memory.proofs.entries.put_entry.Tie as tie
 
 put-value-requires : tie.Need-put-value-requires
 put-value-requires c κs =
-    let a = c .before .before .before .before .before .before .before .args in
-    let p = c .before .before .before .before .before .before .before .pre in
-    let i = c .before .before .found .given in
+    let at-found = c .before .before in
+    let start = at-found .before .before .before .before .before in
+    let a = start .args in
+    let p = start .pre in
+    let i = at-found .found .given in
     ((p .0 .0, found-below (holds (entryNamed (a .name .now))) (a .memory .now) (i .0 .0) (sym (p .1) ∙ i .1)), p .0 .1 .1)
 
 returns : tie.Need-returns
 returns c =
-    let a = c .before .before .before .before .before .before .before .before .before .before .args in
-    let p = c .before .before .before .before .before .before .before .before .before .before .pre in
-    let i = c .before .before .before .before .before .found .given in
+    let at-put-value = c .before .before in
+    let at-found = at-put-value .before .before .before in
+    let start = at-found .before .before .before .before .before in
+    let a = start .args in
+    let p = start .pre in
+    let i = at-found .found .given in
     let v = value (a .number) (a .payload .now) (a .remaining) in
-    entry-held (entryNamed (a .name .now)) (a .memory .now) (i .0 .0) (sym (p .1) ∙ i .1) (revalued v (isMarked (a .marks))) (c .before .before .put-value .last .0) (used (entryNamed (a .name .now)) v (isMarked (a .marks))) (c .before .before .put-value .ensures .0)
+    entry-held (entryNamed (a .name .now)) (a .memory .now) (i .0 .0) (sym (p .1) ∙ i .1) (revalued v (isMarked (a .marks)))
+    (at-put-value .put-value .last .0) (used (entryNamed (a .name .now)) v (isMarked (a .marks))) (at-put-value .put-value .ensures .0)
 
 returns-2 : tie.Need-returns-2
 returns-2 c =
-    let a = c .before .before .before .before .before .before .before .before .before .args in
-    let p = c .before .before .before .before .before .before .before .before .before .pre in
+    let at-insert = c .before .before in
+    let at-test = at-insert .before .before in
+    let start = at-test .before .before .before .before .before in
+    let a = start .args in
+    let p = start .pre in
     let v = value (a .number) (a .payload .now) (a .remaining) in
-    entry-new (entryNamed (a .name .now)) (a .memory .now) (sym (p .1) ∙ c .before .before .before .before .enum-told .given .1) (revalued v (isMarked (a .marks))) (c .before .before .insert .last .0) (used (entryNamed (a .name .now)) v (isMarked (a .marks))) (c .before .before .insert .ensures .rows)
+    entry-new (entryNamed (a .name .now)) (a .memory .now) (sym (p .1) ∙ at-test .enum-told .given .1) (revalued v (isMarked (a .marks)))
+    (at-insert .insert .last .0) (used (entryNamed (a .name .now)) v (isMarked (a .marks))) (at-insert .insert .ensures .rows)
 
 pub put-entry-spec : {M : Type 1} → statement M
 put-entry-spec =

@@ -10,20 +10,34 @@ use Rattle.memory.proofs.entries.reply_record.Statement.{statement}
 use Rattle.memory.proofs.entries.reply_record.Tie as tie
 
 reply-mark-requires : tie.Need-reply-mark-requires
-reply-mark-requires c κs = let a = c .before .before .before .before .before .before .before .before .args in let i = c .before .before .i .given in let h = found-below (holds (entryNamed (a .name .now))) (a .memory .now) (i .0 .0) (sym (c .before .before .before .before .find .ensures) ∙ i .1) in (c .before .before .before .before .before .before .before .before .pre .0 .0, (h, c .before .before .before .before .before .before .before .before .pre .0 .1))
+reply-mark-requires c κs =
+    let at-i = c .before .before in
+    let at-find = at-i .before .before in
+    let start = at-find .before .before .before .before in
+    let a = start .args in
+    let i = at-i .i .given in
+    let h = found-below (holds (entryNamed (a .name .now))) (a .memory .now) (i .0 .0) (sym (at-find .find .ensures) ∙ i .1) in
+    (start .pre .0 .0, (h, start .pre .0 .1))
 
 returns : tie.Need-returns
 returns c =
-    let a = c .before .before .before .before .before .before .before .before .before .before .before .args in
-    let i = c .before .before .before .before .before .i .given in
-    let f = c .before .before .before .before .before .before .before .find in
-    entry-by (f .result) (a .memory .now) (replied (a .k) (a .number)) (entryNamed (a .name .now)) (c .before .before .reply-mark .last .0) (f .ensures)
-    (found-marked (f .result) (a .memory .now) (replied (a .k) (a .number)) (i .0 .0) (c .before .before .reply-mark .last .0) (i .1) (c .before .before .reply-mark .ensures .0))
+    let at-reply-mark = c .before .before in
+    let at-i = at-reply-mark .before .before .before in
+    let at-find = at-i .before .before in
+    let start = at-find .before .before .before .before in
+    let a = start .args in
+    let i = at-i .i .given in
+    let f = at-find .find in
+    entry-by (f .result) (a .memory .now) (replied (a .k) (a .number)) (entryNamed (a .name .now)) (at-reply-mark .reply-mark .last .0) (f .ensures)
+    (found-marked (f .result) (a .memory .now) (replied (a .k) (a .number)) (i .0 .0) (at-reply-mark .reply-mark .last .0) (i .1)
+    (at-reply-mark .reply-mark .ensures .0))
 
 returns-2 : tie.Need-returns-2
 returns-2 c =
-    let a = c .before .before .before .before .before .before .args in
-    let f = c .before .before .find in
+    let at-find = c .before .before in
+    let start = at-find .before .before .before .before in
+    let a = start .args in
+    let f = at-find .find in
     entry-by (f .result) (a .memory .now) (replied (a .k) (a .number)) (entryNamed (a .name .now)) (a .memory .now) (f .ensures)
     (found-absent (f .result) (a .memory .now) (replied (a .k) (a .number)) (c .enum-told .given .1))
 

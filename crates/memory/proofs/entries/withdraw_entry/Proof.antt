@@ -10,14 +10,20 @@ use Rattle.memory.proofs.entries.withdraw_entry.Tie as tie
 
 change-row-requires : tie.Need-change-row-requires
 change-row-requires c κs =
-    let i = c .before .before .before .found .given in
-    (c .before .before .before .before .before .before .pre .0, (found-index (c .before .before .before .before .before .before .args .found) (i .0 .0) (c .before .before .before .before .before .before .pre .1) (i .1), omega arith))
+    let at-found = c .before .before .before in
+    let start = at-found .before .before .before in
+    let i = at-found .found .given in
+    (start .pre .0, (found-index (start .args .found) (i .0 .0) (start .pre .1) (i .1), omega arith))
 
 returns : tie.Need-returns
 returns c =
-    let a = c .before .before .before .before .before .before .before .before .before .args in
-    let i = c .before .before .before .before .before .before .found .given in
-    found-changed (a .found) (a .memory .now) (changedRow (isMarked (a .live)) []) (i .0 .0) (c .before .before .change-row .last .0) (i .1) (c .before .before .change-row .ensures)
+    let at-change-row = c .before .before in
+    let at-found = at-change-row .before .before .before .before in
+    let start = at-found .before .before .before in
+    let a = start .args in
+    let i = at-found .found .given in
+    found-changed (a .found) (a .memory .now) (changedRow (isMarked (a .live)) []) (i .0 .0) (at-change-row .change-row .last .0) (i .1)
+    (at-change-row .change-row .ensures)
 
 returns-2 : tie.Need-returns-2
 returns-2 c =

@@ -14,8 +14,12 @@ put-requires c κs =
 
 returns : tie.Need-returns
 returns c =
-    let a = c .before .before .before .before .before .before .before .args in
-    kept-copied (a .out .now) (c .before .before .put .last .0) (c .before .before .before .kept-of .result .now) (keptIn (a .memory .now) (a .k)) (c .before .before .put .result) (c .before .before .before .kept-of .ensures) (c .before .before .put .ensures)
+    let at-put = c .before .before in
+    let at-kept-of = at-put .before in
+    let start = at-kept-of .before .before .before .before in
+    let a = start .args in
+    kept-copied (a .out .now) (at-put .put .last .0) (at-kept-of .kept-of .result .now) (keptIn (a .memory .now) (a .k)) (at-put .put .result)
+    (at-kept-of .kept-of .ensures) (at-put .put .ensures)
 
 pub copy-kept-spec : {M : Type 1} → statement M
 copy-kept-spec = tie.close (tie.spec (λ c κs. search needs) put-requires (λ c. search needs) returns)

@@ -5,9 +5,14 @@ use Rattle.memory.proofs.kept.keep.Tie as tie
 
 returns : tie.Need-returns
 returns c =
-    let a = c .before .before .before .before .before .before .before .before .before .before .before .args in
-    let at = c .before .before .before .before .before .before .before .before .place in
-    kept-put (a .memory .now) (a .k) (at .result) (at .ensures .0) (c .before .before .before .before .before .before .before .before .before .before .before .pre .0) (c .before .before .before .before .before .before .before .before .before .before .before .pre .1 .1) (a .src .now) (c .before .before .before .before .before .before .put-size .last .0) (c .before .before .put .last .0) (c .before .before .before .before .before .before .before .before .before .before .before .pre .1 .0) (c .before .before .before .before .before .before .put-size .ensures) (c .before .before .put .ensures .octets)
+    let at-put = c .before .before in
+    let at-put-size = at-put .before .before .before .before in
+    let at-place = at-put-size .before .before in
+    let start = at-place .before .before .before in
+    let a = start .args in
+    let at = at-place .place in
+    kept-put (a .memory .now) (a .k) (at .result) (at .ensures .0) (start .pre .0) (start .pre .1 .1) (a .src .now) (at-put-size .put-size .last .0)
+    (at-put .put .last .0) (start .pre .1 .0) (at-put-size .put-size .ensures) (at-put .put .ensures .octets)
 
 pub keep-spec : {M : Type 1} → statement M
 keep-spec =

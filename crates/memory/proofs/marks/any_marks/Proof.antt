@@ -17,7 +17,13 @@ loop-holds : tie.Need-loop-holds Inv-loop μ-loop
 loop-holds c = marks-none (c .before .args .memory .now)
 
 loop-again : tie.Need-loop-again Inv-loop μ-loop
-loop-again c = let l = c .before .before .before .before .loop in marks-more (c .before .before .before .before .before .before .args .memory .now) (l .i) (l .all) (c .if-used .result) (bitOr (l .all) (c .if-used .result)) (c .before .before .before .loop-test .taken) (l .inv) (c .if-used .ensures) refl
+loop-again c =
+    let at-loop-test = c .before .before .before in
+    let at-loop = at-loop-test .before in
+    let start = at-loop .before .before in
+    let l = at-loop .loop in
+    marks-more (start .args .memory .now) (l .i) (l .all) (c .if-used .result) (bitOr (l .all) (c .if-used .result)) (at-loop-test .loop-test .taken)
+    (l .inv) (c .if-used .ensures) refl
 
 returns : tie.Need-returns Inv-loop μ-loop
 returns c = marks-all (c .before .before .before .args .memory .now) (c .before .loop .i) (c .before .loop .all) (c .loop-test .left) (c .before .loop .inv)

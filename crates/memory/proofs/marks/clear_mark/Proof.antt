@@ -11,7 +11,16 @@ use Rattle.memory.proofs.marks.clear_mark.Statement.{statement}
 use Rattle.memory.proofs.marks.clear_mark.Tie as tie
 
 returns : tie.Need-returns
-returns c = let a = c .before .before .before .before .before .before .before .args in let s = a .memory .now in let h = c .before .before .before .before .before .before .before .pre .1 .0 in let r = c .before .before .before .before .without-mark .result in c .before .before .put-marks .ensures ∙ changed-as (withMarks (isMarked r)) (unmarked (a .k)) s (a .i) (marks-on s (a .i) h (a .k) (octet s (markPlace (a .i))) r false refl (c .before .before .before .before .without-mark .ensures) ∙ row-unmarked s (a .i) h (a .k))
+returns c =
+    let at-put-marks = c .before .before in
+    let at-without-mark = at-put-marks .before .before in
+    let start = at-without-mark .before .before .before in
+    let a = start .args in
+    let s = a .memory .now in
+    let h = start .pre .1 .0 in
+    let r = at-without-mark .without-mark .result in
+    at-put-marks .put-marks .ensures ∙ changed-as (withMarks (isMarked r)) (unmarked (a .k)) s (a .i)
+    (marks-on s (a .i) h (a .k) (octet s (markPlace (a .i))) r false refl (at-without-mark .without-mark .ensures) ∙ row-unmarked s (a .i) h (a .k))
 
 pub clear-mark-spec : {M : Type 1} → statement M
 clear-mark-spec =

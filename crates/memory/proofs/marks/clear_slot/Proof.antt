@@ -24,9 +24,16 @@ clear-mark-requires c κs = (search needs, (search needs, search needs))
 
 loop-again : tie.Need-loop-again Inv-loop μ-loop
 loop-again c =
-    let a = c .before .before .before .before .before .before .before .args in
-    let l = c .before .before .before .before .before .loop in
-    (search needs, changed-more (unmarked (a .k)) (a .memory .now) (l .memory) (l .i) (l .inv .1) (c .before .before .clear-mark .last .0) (c .before .before .before .before .loop-test .taken) (c .before .before .clear-mark .ensures))
+    let at-clear-mark = c .before .before in
+    let at-loop-test = at-clear-mark .before .before in
+    let at-loop = at-loop-test .before in
+    let start = at-loop .before .before in
+    let a = start .args in
+    let l = at-loop .loop in (
+      search needs,
+      changed-more (unmarked (a .k)) (a .memory .now) (l .memory) (l .i) (l .inv .1) (at-clear-mark .clear-mark .last .0)
+          (at-loop-test .loop-test .taken) (at-clear-mark .clear-mark .ensures),
+    )
 
 same-length : tie.Need-same-length Inv-loop μ-loop
 same-length c = c .before .loop .inv .0

@@ -10,15 +10,25 @@ use Rattle.memory.proofs.marks.mark_again.Tie as tie
 returns : tie.Need-returns
 returns c =
     let a = c .before .before .before .before .args in
-    let s = a .memory .now in
-    (changed-not (waitsAgain (a .k)) s (a .i) (again-not s (a .i) (c .before .before .before .before .pre .1 .0) (a .k) (sym (c .before .remaining-of .ensures) ∙ c .if1 .taken)), λ z. refl)
+    let s = a .memory .now in (
+      changed-not (waitsAgain (a .k)) s (a .i) (again-not s (a .i) (c .before .before .before .before .pre .1 .0) (a .k)
+          (sym (c .before .remaining-of .ensures) ∙ c .if1 .taken)),
+      λ z. refl,
+    )
 
 returns-2 : tie.Need-returns-2
 returns-2 c =
-    let a = c .before .before .before .before .before .before .before .before .args in
+    let at-set-mark = c .before .before in
+    let at-if1 = at-set-mark .before .before in
+    let at-remaining-of = at-if1 .before in
+    let start = at-remaining-of .before .before .before in
+    let a = start .args in
     let s = a .memory .now in
-    let some : valueAt s (a .i) .remaining ≡ 0 → ⊥ = λ z. c .before .before .before .before .if1 .left (c .before .before .before .before .before .remaining-of .ensures ∙ z) in
-    (c .before .before .set-mark .ensures ∙ changed-as (marked (a .k)) (waitsAgain (a .k)) s (a .i) (again-so s (a .i) (c .before .before .before .before .before .before .before .before .pre .1 .0) (a .k) some), λ z. absurd (some z))
+    let some : valueAt s (a .i) .remaining ≡ 0 → ⊥ = λ z. at-if1 .if1 .left (at-remaining-of .remaining-of .ensures ∙ z) in (
+      at-set-mark .set-mark .ensures ∙ changed-as (marked (a .k)) (waitsAgain (a .k)) s (a .i) (again-so s (a .i) (start .pre .1 .0) (a .k) some),
+      λ z.
+          absurd (some z),
+    )
 
 pub mark-again-spec : {M : Type 1} → statement M
 mark-again-spec =

@@ -12,27 +12,43 @@ returns c =
     let a = c .before .before .before .before .before .args in
     let s = a .memory .now in (
       changed-not (replied (a .k) (a .number)) s (a .i)
-          (replied-newer s (a .i) (c .before .before .before .before .before .pre .1 .0) (a .k) (a .number) (c .before .before .number-of .result) (c .before .before .number-of .ensures) (sym (c .before .newer .ensures) ∙ c .if1 .taken)),
+          (replied-newer s (a .i) (c .before .before .before .before .before .pre .1 .0) (a .k) (a .number) (c .before .before .number-of .result)
+          (c .before .before .number-of .ensures) (sym (c .before .newer .ensures) ∙ c .if1 .taken)),
       λ z. refl,
     )
 
 returns-2 : tie.Need-returns-2
 returns-2 c =
-    let a = c .before .before .before .before .before .before .before .args in
+    let at-newer2 = c .before in
+    let at-if1 = at-newer2 .before in
+    let at-newer = at-if1 .before in
+    let at-number-of = at-newer .before in
+    let start = at-number-of .before .before .before in
+    let a = start .args in
     let s = a .memory .now in (
       changed-not (replied (a .k) (a .number)) s (a .i)
-          (replied-older s (a .i) (c .before .before .before .before .before .before .before .pre .1 .0) (a .k) (a .number) (c .before .before .before .before .number-of .result) (c .before .before .before .before .number-of .ensures) (sym (c .before .before .before .newer .ensures) ∙ c .before .before .if1 .left) (sym (c .before .newer2 .ensures) ∙ c .if2 .taken)),
+          (replied-older s (a .i) (start .pre .1 .0) (a .k) (a .number) (at-number-of .number-of .result) (at-number-of .number-of .ensures)
+          (sym (at-newer .newer .ensures) ∙ at-if1 .if1 .left) (sym (at-newer2 .newer2 .ensures) ∙ c .if2 .taken)),
       λ z. refl,
     )
 
 returns-3 : tie.Need-returns-3
 returns-3 c =
-    let a = c .before .before .before .before .before .before .before .before .before .before .before .args in
+    let at-clear-mark = c .before .before in
+    let at-if2 = at-clear-mark .before .before in
+    let at-newer2 = at-if2 .before in
+    let at-if1 = at-newer2 .before in
+    let at-newer = at-if1 .before in
+    let at-number-of = at-newer .before in
+    let start = at-number-of .before .before .before in
+    let a = start .args in
     let s = a .memory .now in (
-      c .before .before .clear-mark .ensures
+      at-clear-mark .clear-mark .ensures
           ∙ changed-as (unmarked (a .k)) (replied (a .k) (a .number)) s (a .i)
-          (replied-same s (a .i) (c .before .before .before .before .before .before .before .before .before .before .before .pre .1 .0) (a .k) (a .number) (c .before .before .before .before .before .before .before .before .number-of .result) (c .before .before .before .before .before .before .before .before .number-of .ensures) (sym (c .before .before .before .before .before .before .before .newer .ensures) ∙ c .before .before .before .before .before .before .if1 .left) (sym (c .before .before .before .before .before .newer2 .ensures) ∙ c .before .before .before .before .if2 .left)),
-      λ z. absurd (not-differing s (a .i) (c .before .before .before .before .before .before .before .before .before .before .before .pre .1 .0) (a .k) (a .number) (c .before .before .before .before .before .before .before .before .number-of .result) (c .before .before .before .before .before .before .before .before .number-of .ensures) (sym (c .before .before .before .before .before .before .before .newer .ensures) ∙ c .before .before .before .before .before .before .if1 .left) (sym (c .before .before .before .before .before .newer2 .ensures) ∙ c .before .before .before .before .if2 .left) z),
+          (replied-same s (a .i) (start .pre .1 .0) (a .k) (a .number) (at-number-of .number-of .result) (at-number-of .number-of .ensures)
+          (sym (at-newer .newer .ensures) ∙ at-if1 .if1 .left) (sym (at-newer2 .newer2 .ensures) ∙ at-if2 .if2 .left)),
+      λ z. absurd (not-differing s (a .i) (start .pre .1 .0) (a .k) (a .number) (at-number-of .number-of .result) (at-number-of .number-of .ensures)
+          (sym (at-newer .newer .ensures) ∙ at-if1 .if1 .left) (sym (at-newer2 .newer2 .ensures) ∙ at-if2 .if2 .left) z),
     )
 
 pub reply-mark-spec : {M : Type 1} → statement M

@@ -10,7 +10,16 @@ use Rattle.memory.proofs.marks.set_mark.Statement.{statement}
 use Rattle.memory.proofs.marks.set_mark.Tie as tie
 
 returns : tie.Need-returns
-returns c = let a = c .before .before .before .before .before .before .before .args in let s = a .memory .now in let h = c .before .before .before .before .before .before .before .pre .1 .0 in let r = c .before .before .before .before .with-mark .result in c .before .before .put-marks .ensures ∙ changed-as (withMarks (isMarked r)) (marked (a .k)) s (a .i) (marks-on s (a .i) h (a .k) (octet s (markPlace (a .i))) r true refl (c .before .before .before .before .with-mark .ensures) ∙ row-marked s (a .i) h (a .k))
+returns c =
+    let at-put-marks = c .before .before in
+    let at-with-mark = at-put-marks .before .before in
+    let start = at-with-mark .before .before .before in
+    let a = start .args in
+    let s = a .memory .now in
+    let h = start .pre .1 .0 in
+    let r = at-with-mark .with-mark .result in
+    at-put-marks .put-marks .ensures ∙ changed-as (withMarks (isMarked r)) (marked (a .k)) s (a .i)
+    (marks-on s (a .i) h (a .k) (octet s (markPlace (a .i))) r true refl (at-with-mark .with-mark .ensures) ∙ row-marked s (a .i) h (a .k))
 
 pub set-mark-spec : {M : Type 1} → statement M
 set-mark-spec =

@@ -10,7 +10,8 @@ returns : tie.Need-returns
 returns c = spread-none (isMarked (c .before .args .live)) (c .before .args .k) (c .before .args .remaining) (c .if1 .taken)
 
 returns-2 : tie.Need-returns-2
-returns-2 c = c .without-mark .ensures ∙ spread-some (isMarked (c .before .before .args .live)) (c .before .before .args .k) (c .before .before .args .remaining) (omega arith)
+returns-2 c = c .without-mark .ensures ∙ spread-some (isMarked (c .before .before .args .live)) (c .before .before .args .k)
+    (c .before .before .args .remaining) (omega arith)
 
 pub spread-of-spec : {M : Type 1} → statement M
 spread-of-spec = tie.close (tie.spec returns (λ c κs. search needs) returns-2)

@@ -5,10 +5,13 @@ use Rattle.memory.proofs.marks.waits.Statement.{statement}
 use Rattle.memory.proofs.marks.waits.Tie as tie
 
 returns : tie.Need-returns
-returns c = waits-none (c .before .before .before .args .memory .now) (c .before .before .before .args .i) (c .before .before .before .pre .1 .0) (c .before .before .before .args .k) (c .if1 .taken)
+returns c = waits-none (c .before .before .before .args .memory .now) (c .before .before .before .args .i) (c .before .before .before .pre .1 .0)
+    (c .before .before .before .args .k) (c .if1 .taken)
 
 returns-2 : tie.Need-returns-2
-returns-2 c = c .is-marked .ensures ∙ waits-marked (c .before .before .before .before .before .args .memory .now) (c .before .before .before .before .before .args .i) (c .before .before .before .before .before .pre .1 .0) (c .before .before .before .before .before .args .k) (c .before .before .if1 .left)
+returns-2 c = c .is-marked .ensures ∙ waits-marked (c .before .before .before .before .before .args .memory .now)
+    (c .before .before .before .before .before .args .i) (c .before .before .before .before .before .pre .1 .0)
+    (c .before .before .before .before .before .args .k) (c .before .before .if1 .left)
 
 pub waits-spec : {M : Type 1} → statement M
 waits-spec =

@@ -14,7 +14,8 @@ returns c = bit-same (isMarked (c .before .before .args .b)) (c .before .before 
 add-result : tie.Need-add-result
 add-result c =
     let a = c .before .before .before .args in
-    let g : a .b + 2 ^ (a .k) < 2 ^ 8 = bit-room 8 (a .k) (a .b) (c .before .before .before .pre) (omega arith) (sym (c .before .before .is-marked .ensures) ∙ c .before .if1 .left) in
+    let g : a .b + 2 ^ (a .k) < 2 ^ 8 = bit-room 8 (a .k) (a .b) (c .before .before .before .pre) (omega arith)
+    (sym (c .before .before .is-marked .ensures) ∙ c .before .if1 .left) in
     record { fits = rw (c .power-of .ensures .0) g }
 
 returns-2 : tie.Need-returns-2

@@ -15,7 +15,8 @@ sub-result c =
 returns : tie.Need-returns
 returns c =
     let a = c .before .before .before .args in
-    ap (λ (p : ℕ). isMarked (a .b - p)) (c .power-of .ensures .0) ∙ bit-clear (a .k) (a .b) (sym (c .before .before .is-marked .ensures) ∙ c .before .if1 .taken)
+    ap (λ (p : ℕ). isMarked (a .b - p)) (c .power-of .ensures .0)
+    ∙ bit-clear (a .k) (a .b) (sym (c .before .before .is-marked .ensures) ∙ c .before .if1 .taken)
 
 returns-2 : tie.Need-returns-2
 returns-2 c = bit-same (isMarked (c .before .before .args .b)) (c .before .before .args .k) false (sym (c .before .is-marked .ensures) ∙ c .if1 .left)

@@ -16,7 +16,8 @@ returns : tie.Need-returns
 returns c =
     let a = c .before .before .before .before .before .args in
     let p = c .before .before .before .part-of in
-    first-kept (a .memory .now) (p .result .now) (c .before .copy .last .1 .0) (a .at) (a .n) (c .before .before .before .before .before .pre .0) (c .before .before .before .before .before .pre .1) (p .ensures) (c .before .copy .ensures .1)
+    first-kept (a .memory .now) (p .result .now) (c .before .copy .last .1 .0) (a .at) (a .n) (c .before .before .before .before .before .pre .0)
+    (c .before .before .before .before .before .pre .1) (p .ensures) (c .before .copy .ensures .1)
 
 pub first-of-spec : {M : Type 1} → statement M
 first-of-spec = tie.close (tie.spec (λ c κs. search needs) (λ c. search needs) copy-requires returns)

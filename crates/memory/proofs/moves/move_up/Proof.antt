@@ -39,8 +39,11 @@ loop-again : tie.Need-loop-again Inv-loop μ-loop
 loop-again c =
     let a = c .before .before .before .args in
     let l = c .before .before .loop in
-    let m = l .memory in
-    ((omega arith, length-set m (a .at + l .i) (octet m (a .at + a .by + l .i)) ∙ l .inv .0 .1), moved-more (a .memory .now) (a .at) (a .by) m (l .i) (omega (arith, c .before .before .before .pre, c .before .loop-test .taken)) (l .inv .1))
+    let m = l .memory in (
+      (omega arith, length-set m (a .at + l .i) (octet m (a .at + a .by + l .i)) ∙ l .inv .0 .1),
+      moved-more (a .memory .now) (a .at) (a .by) m (l .i)
+          (omega (arith, c .before .before .before .pre, c .before .loop-test .taken)) (l .inv .1),
+    )
 
 same-length : tie.Need-same-length Inv-loop μ-loop
 same-length c = c .before .loop .inv .0 .1

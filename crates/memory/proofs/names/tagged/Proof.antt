@@ -15,8 +15,10 @@ returns c =
 returns-2 : tie.Need-returns-2
 returns-2 c =
     let a = c .before .before .before .before .args in
-    let n = ap length (c .tail .ensures) ∙ length-drop (length (a .name .now) - 4) (a .name .now) in
-    (c .tail .ensures ∙ tagged-end (a .name .now) (a .tag) (λ e. c .before .if1 .left (e ∙ sym (c .before .before .tag-of .ensures))), (omega (arith, n, c .before .before .before .before .pre), omega (arith, n)))
+    let n = ap length (c .tail .ensures) ∙ length-drop (length (a .name .now) - 4) (a .name .now) in (
+      c .tail .ensures ∙ tagged-end (a .name .now) (a .tag) (λ e. c .before .if1 .left (e ∙ sym (c .before .before .tag-of .ensures))),
+      (omega (arith, n, c .before .before .before .before .pre), omega (arith, n)),
+    )
 
 pub tagged-spec : {M : Type 1} → statement M
 tagged-spec = tie.close (tie.spec (λ c κs. search needs) returns (λ c. search needs) (λ c κs. search needs) returns-2)

@@ -25,24 +25,34 @@ loop-holds c = record { few = omega arith; full = refl; going = refl; last = ref
 returns : tie.Need-returns Inv-loop μ-loop
 returns c =
     let l = c .before .before .loop in
-    picked-full (λ i. isUsed (rowAt (rowsIn (c .before .before .before .before .args .memory .now)) i)) (c .before .before .before .before .args .from) (nextUsed (rowsIn (c .before .before .before .before .args .memory .now)) (c .before .before .before .before .args .from)) (l .rows) (l .count) (l .next) (64 - l .at) (l .at) (c .if1 .taken) (l .inv)
+    picked-full (λ i. isUsed (rowAt (rowsIn (c .before .before .before .before .args .memory .now)) i)) (c .before .before .before .before .args .from)
+    (nextUsed (rowsIn (c .before .before .before .before .args .memory .now)) (c .before .before .before .before .args .from)) (l .rows) (l .count)
+    (l .next) (64 - l .at) (l .at) (c .if1 .taken) (l .inv)
 
 is-used-requires : tie.Need-is-used-requires Inv-loop μ-loop
 is-used-requires c κs = (search needs, search needs)
 
 loop-again : tie.Need-loop-again Inv-loop μ-loop
 loop-again c =
-    let l = c .before .before .before .before .loop in
-    let rows = rowsIn (c .before .before .before .before .before .before .args .memory .now) in
-    let v = c .before .is-used .ensures ∙ ap isUsed (sym (row-get (c .before .before .before .before .before .before .args .memory .now) (l .at) (c .before .before .before .loop-test .taken))) in
+    let at-is-used = c .before in
+    let at-if1 = at-is-used .before in
+    let at-loop-test = at-if1 .before in
+    let at-loop = at-loop-test .before in
+    let start = at-loop .before .before in
+    let l = at-loop .loop in
+    let rows = rowsIn (start .args .memory .now) in
+    let v = at-is-used .is-used .ensures ∙ ap isUsed (sym (row-get (start .args .memory .now) (l .at) (at-loop-test .loop-test .taken))) in
     let j = c .if2 in
-    go-on (λ i. isUsed (rowAt rows i)) 4 (c .before .before .before .before .before .before .args .from) (nextUsed rows (c .before .before .before .before .before .before .args .from)) (l .rows) (j .rows) (l .count) (j .count) (l .next) (j .next) (64 - l .at) (64 - (l .at + 1)) (l .at) (c .before .before .if1 .left) (omega arith) (l .inv)
+    go-on (λ i. isUsed (rowAt rows i)) 4 (start .args .from) (nextUsed rows (start .args .from)) (l .rows) (j .rows) (l .count) (j .count) (l .next)
+    (j .next) (64 - l .at) (64 - (l .at + 1)) (l .at) (at-if1 .if1 .left) (omega arith) (l .inv)
     (⊎-elim (λ w. inl (sym v ∙ w .0 .taken, (w .1, (w .2, w .3)))) (λ w. inr (sym v ∙ w .0 .left, (w .1, (w .2, w .3)))) (j .came))
 
 returns-2 : tie.Need-returns-2 Inv-loop μ-loop
 returns-2 c =
     let l = c .before .loop in
-    picked-end (λ i. isUsed (rowAt (rowsIn (c .before .before .before .args .memory .now)) i)) (c .before .before .before .args .from) (nextUsed (rowsIn (c .before .before .before .args .memory .now)) (c .before .before .before .args .from)) (l .rows) (l .count) (l .next) (64 - l .at) (l .at) (omega arith) (l .inv)
+    picked-end (λ i. isUsed (rowAt (rowsIn (c .before .before .before .args .memory .now)) i)) (c .before .before .before .args .from)
+    (nextUsed (rowsIn (c .before .before .before .args .memory .now)) (c .before .before .before .args .from)) (l .rows) (l .count) (l .next) (64 - l .at)
+    (l .at) (omega arith) (l .inv)
 
 pub next-used-spec : {M : Type 1} → statement M
 next-used-spec =

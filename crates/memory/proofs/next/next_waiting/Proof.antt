@@ -8,7 +8,8 @@ use Rattle.memory.proofs.next.next_waiting.Tie as tie
 returns-2 : tie.Need-returns-2
 returns-2 c =
     let a = c .before .before .before .before .args in
-    picked-none (rowsIn (a .memory .now)) (a .k) (a .from) _ refl (sym (c .before .before .any-marks .ensures (a .k)) ∙ sym (c .before .is-marked .ensures) ∙ c .if1 .left)
+    picked-none (rowsIn (a .memory .now)) (a .k) (a .from) _ refl (sym (c .before .before .any-marks .ensures (a .k)) ∙ sym (c .before .is-marked .ensures)
+    ∙ c .if1 .left)
 
 pub next-waiting-spec : {M : Type 1} → statement M
 next-waiting-spec =

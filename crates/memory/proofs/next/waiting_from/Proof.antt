@@ -26,20 +26,26 @@ returns c =
     let l = c .before .before .loop in
     let a = c .before .before .before .before .args in
     let s = rowsIn (a .memory .now) in
-    picked-full (λ i. waitsFor (a .k) (rowAt s (i % 64))) (a .from) (nextWaiting s (a .k) (a .from)) (l .rows) (l .count) (l .next) (l .left) (l .place) (c .if1 .taken) (l .inv .1)
+    picked-full (λ i. waitsFor (a .k) (rowAt s (i % 64))) (a .from) (nextWaiting s (a .k) (a .from)) (l .rows) (l .count) (l .next) (l .left) (l .place)
+    (c .if1 .taken) (l .inv .1)
 
 waits-requires : tie.Need-waits-requires Inv-loop μ-loop
 waits-requires c κs = (search needs, (search needs, search needs))
 
 loop-again : tie.Need-loop-again Inv-loop μ-loop
 loop-again c =
-    let l = c .before .before .before .before .loop in
-    let a = c .before .before .before .before .before .before .args in
+    let at-waits = c .before in
+    let at-if1 = at-waits .before in
+    let at-loop = at-if1 .before .before in
+    let start = at-loop .before .before in
+    let l = at-loop .loop in
+    let a = start .args in
     let s = rowsIn (a .memory .now) in
-    let v = c .before .waits .ensures in
+    let v = at-waits .waits .ensures in
     let j = c .if2 in (
       omega arith,
-      go-on (λ i. waitsFor (a .k) (rowAt s (i % 64))) 4 (a .from) (nextWaiting s (a .k) (a .from)) (l .rows) (j .rows) (l .count) (j .count) (l .next) (j .next) (l .left) (l .left - 1) (l .place) (c .before .before .if1 .left) (omega arith) (l .inv .1)
+      go-on (λ i. waitsFor (a .k) (rowAt s (i % 64))) 4 (a .from) (nextWaiting s (a .k) (a .from)) (l .rows) (j .rows) (l .count) (j .count) (l .next)
+          (j .next) (l .left) (l .left - 1) (l .place) (at-if1 .if1 .left) (omega arith) (l .inv .1)
           (⊎-elim (λ w. inl (sym v ∙ w .0 .taken, (w .1, (w .2, w .3)))) (λ w. inr (sym v ∙ w .0 .left, (w .1, (w .2, w .3)))) (j .came)),
     )
 
@@ -48,7 +54,8 @@ returns-2 c =
     let l = c .before .loop in
     let a = c .before .before .before .args in
     let s = rowsIn (a .memory .now) in
-    picked-end (λ i. waitsFor (a .k) (rowAt s (i % 64))) (a .from) (nextWaiting s (a .k) (a .from)) (l .rows) (l .count) (l .next) (l .left) (l .place) (omega arith) (l .inv .1)
+    picked-end (λ i. waitsFor (a .k) (rowAt s (i % 64))) (a .from) (nextWaiting s (a .k) (a .from)) (l .rows) (l .count) (l .next) (l .left) (l .place)
+    (omega arith) (l .inv .1)
 
 pub waiting-from-spec : {M : Type 1} → statement M
 waiting-from-spec =

@@ -9,17 +9,26 @@ use Rattle.memory.proofs.requests.goes.Tie as tie
 returns : tie.Need-returns
 returns c =
     let a = c .before .before .before .before .before .args in
-    goes-all (a .all) (c .before .before .asks .result) (entryNamed (a .name .now)) (a .number) (getD (roomsIn (a .memory .now) (a .k)) (a .i) noRequest) (c .before .before .asks .ensures) (c .before .if1 .taken) (c .if2 .taken)
+    goes-all (a .all) (c .before .before .asks .result) (entryNamed (a .name .now)) (a .number) (getD (roomsIn (a .memory .now) (a .k)) (a .i) noRequest)
+    (c .before .before .asks .ensures) (c .before .if1 .taken) (c .if2 .taken)
 
 returns-2 : tie.Need-returns-2
 returns-2 c =
-    let a = c .before .before .before .before .before .before .before .args in
-    goes-by (a .memory .now) (a .memory .now) (a .k) (a .i) (entryNamed (a .name .now)) (a .number) (c .before .number-at .result) (c .newer .result) (c .before .before .before .before .before .before .before .pre .0 .1 .0) (c .before .number-at .ensures) (a .all) (c .before .before .before .before .asks .result) (c .before .before .before .before .asks .ensures) (c .before .before .before .if1 .taken) (c .before .before .if2 .left) (c .newer .ensures)
+    let at-number-at = c .before in
+    let at-if2 = at-number-at .before in
+    let at-if1 = at-if2 .before in
+    let at-asks = at-if1 .before in
+    let start = at-asks .before .before .before in
+    let a = start .args in
+    goes-by (a .memory .now) (a .memory .now) (a .k) (a .i) (entryNamed (a .name .now)) (a .number) (at-number-at .number-at .result) (c .newer .result)
+    (start .pre .0 .1 .0) (at-number-at .number-at .ensures) (a .all) (at-asks .asks .result) (at-asks .asks .ensures) (at-if1 .if1 .taken)
+    (at-if2 .if2 .left) (c .newer .ensures)
 
 returns-3 : tie.Need-returns-3
 returns-3 c =
     let a = c .before .before .before .before .args in
-    goes-not (a .all) (c .before .asks .result) (entryNamed (a .name .now)) (a .number) (getD (roomsIn (a .memory .now) (a .k)) (a .i) noRequest) (c .before .asks .ensures) (c .if1 .left)
+    goes-not (a .all) (c .before .asks .result) (entryNamed (a .name .now)) (a .number) (getD (roomsIn (a .memory .now) (a .k)) (a .i) noRequest)
+    (c .before .asks .ensures) (c .if1 .left)
 
 pub goes-spec : {M : Type 1} → statement M
 goes-spec =

@@ -11,7 +11,11 @@ tagged-requires : tie.Need-tagged-requires
 tagged-requires c κs =
     let a = c .before .before .before .before .args in
     let at = c .before .before .place in
-    omega (arith, ap length (c .before .name-at .ensures) ∙ room-name-length (a .memory .now) (at .result) (omega (arith, at .ensures .1, c .before .before .before .before .pre .1 .1)))
+    omega (
+      arith,
+      ap length (c .before .name-at .ensures)
+          ∙ room-name-length (a .memory .now) (at .result) (omega (arith, at .ensures .1, c .before .before .before .before .pre .1 .1)),
+    )
 
 returns : tie.Need-returns
 returns c =
@@ -19,8 +23,12 @@ returns c =
     let at = c .before .before .before .place in
     let v = c .before .before .name-at in
     let r = c .tagged .ensures in
-    let n = ap length (v .ensures) ∙ room-name-length (a .memory .now) (at .result) (omega (arith, at .ensures .1, c .before .before .before .before .before .pre .1 .1)) in
-    (name-read (a .memory .now) (a .k) (a .i) (at .result) (at .ensures .0) (c .tagged .result .now) (v .result .now) (c .before .tag-at .result) (v .ensures) (c .before .tag-at .ensures) (r .0), (r .1 .0, omega (arith, n, r .1 .1)))
+    let n = ap length (v .ensures) ∙ room-name-length (a .memory .now) (at .result)
+    (omega (arith, at .ensures .1, c .before .before .before .before .before .pre .1 .1)) in (
+      name-read (a .memory .now) (a .k) (a .i) (at .result) (at .ensures .0) (c .tagged .result .now) (v .result .now) (c .before .tag-at .result)
+          (v .ensures) (c .before .tag-at .ensures) (r .0),
+      (r .1 .0, omega (arith, n, r .1 .1)),
+    )
 
 pub name-at-spec : {M : Type 1} → statement M
 name-at-spec =

@@ -7,7 +7,8 @@ returns : tie.Need-returns
 returns c =
     let a = c .before .before .before .before .args in
     let at = c .before .before .place in
-    number-read (a .memory .now) (a .k) (a .i) (at .result) (at .ensures .0) (c .before .field4 .result) (c .csa-of .result) (c .before .field4 .ensures) (c .csa-of .ensures)
+    number-read (a .memory .now) (a .k) (a .i) (at .result) (at .ensures .0) (c .before .field4 .result) (c .csa-of .result) (c .before .field4 .ensures)
+    (c .csa-of .ensures)
 
 pub number-at-spec : {M : Type 1} → statement M
 number-at-spec =

@@ -11,12 +11,21 @@ returns c =
 
 returns-2 : tie.Need-returns-2
 returns-2 c =
-    let a = c .before .before .before .before .before .before .before .before .before .before .before .before .before .before .args in
-    let p = c .before .before .before .before .before .before .before .before .before .before .before .before .before .before .pre in
-    let n = c .before .before .before .before .before .before .before .before .before .before .before .count in
-    let r = c .before .before .before .before .before .before .before .rotate in
-    let t = c .before .before .rotate2 in
-    rotate-done (a .memory .now) (a .k) (n .result) (p .0) (c .before .before .before .before .before .before .before .before .before .before .if1 .left) (n .ensures .1) (p .1) (n .ensures .0) (r .last .0) (t .last .0) (c .before .before .before .before .before .before .before .before .place .result) (c .before .before .before .tag-place .result) (c .before .before .before .before .before .before .before .before .place .ensures .0) (c .before .before .before .tag-place .ensures .0) (r .ensures) (t .ensures)
+    let at-rotate2 = c .before .before in
+    let at-tag-place = at-rotate2 .before in
+    let at-rotate = at-tag-place .before .before .before .before in
+    let at-place = at-rotate .before in
+    let at-if1 = at-place .before .before in
+    let at-count = at-if1 .before in
+    let start = at-count .before .before .before in
+    let a = start .args in
+    let p = start .pre in
+    let n = at-count .count in
+    let r = at-rotate .rotate in
+    let t = at-rotate2 .rotate2 in
+    rotate-done (a .memory .now) (a .k) (n .result) (p .0) (at-if1 .if1 .left) (n .ensures .1) (p .1) (n .ensures .0) (r .last .0) (t .last .0)
+    (at-place .place .result) (at-tag-place .tag-place .result) (at-place .place .ensures .0) (at-tag-place .tag-place .ensures .0) (r .ensures)
+    (t .ensures)
 
 pub rotate-spec : {M : Type 1} → statement M
 rotate-spec =

@@ -11,10 +11,16 @@ use Rattle.memory.proofs.room.copy_request.Tie as tie
 
 returns : tie.Need-returns
 returns c =
-    let a = c .before .before .before .before .before .before .before .before .before .before .args in
+    let at-put-room = c .before .before in
+    let at-room-octets = at-put-room .before .before .before in
+    let at-tag-at = at-room-octets .before .before in
+    let start = at-tag-at .before .before .before in
+    let a = start .args in
     let s = a .memory .now in
-    let q = c .before .before .before .before .before .room-octets in
-    room-is (a .k) (field2 s (listPlace (a .k))) (a .to) (roomsIn s (a .k)) s (c .before .before .put-room .last .0) (requestOf (c .before .before .before .before .before .before .before .tag-at .result) (q .result)) (getD (roomsIn s (a .k)) (a .from) noRequest) (ap (λ (t : ℕ). requestOf t (q .result)) (c .before .before .before .before .before .before .before .tag-at .ensures) ∙ q .ensures .1) (c .before .before .put-room .ensures)
+    let q = at-room-octets .room-octets in
+    room-is (a .k) (field2 s (listPlace (a .k))) (a .to) (roomsIn s (a .k)) s (at-put-room .put-room .last .0)
+    (requestOf (at-tag-at .tag-at .result) (q .result)) (getD (roomsIn s (a .k)) (a .from) noRequest)
+    (ap (λ (t : ℕ). requestOf t (q .result)) (at-tag-at .tag-at .ensures) ∙ q .ensures .1) (at-put-room .put-room .ensures)
 
 pub copy-request-spec : {M : Type 1} → statement M
 copy-request-spec =

@@ -14,7 +14,8 @@ cast-at-most c = omega (arith, c .shared-slice-known2 .given (c .before .before 
 returns : tie.Need-returns
 returns c =
     let a = c .before .before .before .before .args in
-    let e : a .at + 8 + c .before .at-most .result + 4 - (a .at + 8) ≡ min (octet (a .memory .now) (a .at)) 16 + 4 = omega (arith, c .before .at-most .ensures .0) in
+    let e : a .at + 8 + c .before .at-most .result + 4 - (a .at + 8) ≡ min (octet (a .memory .now) (a .at)) 16 + 4 =
+    omega (arith, c .before .at-most .ensures .0) in
     ap (part (a .memory .now) (a .at + 8)) e
 
 pub name-at-spec : {M : Type 1} → statement M

@@ -13,7 +13,8 @@ unfolding putAt
 returns c =
     let a = c .before .before .before .before .args in
     let L : length (a .b) ≡ 28 = search needs in
-    let e = put-part (a .b) (a .src .now) (c .before .copy .last .1 .0) (a .at) (a .at + length (a .src .now)) (omega arith) (omega arith) (omega arith) (c .before .copy .ensures .1) in
+    let e = put-part (a .b) (a .src .now) (c .before .copy .last .1 .0) (a .at) (a .at + length (a .src .now)) (omega arith) (omega arith) (omega arith)
+    (c .before .copy .ensures .1) in
     (ap length e ∙ put-length (a .b) (a .at) (a .src .now) (omega arith) ∙ L, e)
 
 pub put-in-spec : {M : Type 1} → statement M

@@ -11,10 +11,15 @@ use Rattle.memory.proofs.room.put_request.Tie as tie
 
 returns : tie.Need-returns
 returns c =
-    let a = c .before .before .before .before .before .before .before .before .args in
+    let at-put-room = c .before .before in
+    let at-pack = at-put-room .before .before .before in
+    let start = at-pack .before .before .before in
+    let a = start .args in
     let s = a .memory .now in
-    let q = c .before .before .before .before .before .pack in
-    room-is (a .k) (field2 s (listPlace (a .k))) (a .i) (roomsIn s (a .k)) s (c .before .before .put-room .last .0) (requestOf (a .t) (q .result)) (record { entry = entryNamed (a .name .now); number = a .number }) (ap (λ (t : ℕ). requestOf t (q .result)) (c .before .before .before .before .before .before .before .before .pre .1 .0 .1) ∙ q .ensures .1) (c .before .before .put-room .ensures)
+    let q = at-pack .pack in
+    room-is (a .k) (field2 s (listPlace (a .k))) (a .i) (roomsIn s (a .k)) s (at-put-room .put-room .last .0) (requestOf (a .t) (q .result))
+    (record { entry = entryNamed (a .name .now); number = a .number }) (ap (λ (t : ℕ). requestOf t (q .result)) (start .pre .1 .0 .1) ∙ q .ensures .1)
+    (at-put-room .put-room .ensures)
 
 pub put-request-spec : {M : Type 1} → statement M
 put-request-spec =

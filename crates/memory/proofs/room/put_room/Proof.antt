@@ -9,11 +9,15 @@ use Rattle.memory.proofs.room.put_room.Tie as tie
 
 returns : tie.Need-returns
 returns c =
-    let a = c .before .before .before .before .before .before .before .before .args in
-    let p = c .before .before .before .before .before .before .before .before .pre in
-    let at = c .before .before .before .before .place in
+    let at-put = c .before .before .before in
+    let at-place = at-put .before in
+    let start = at-place .before .before .before .before in
+    let a = start .args in
+    let p = start .pre in
+    let at = at-place .place in
     let to = c .tag-place in
-    room-put (a .memory .now) (a .k) (a .i) (at .result) (at .ensures .0) _ (a .q .now) (a .tag) (to .result) (p .0) (p .1 .0) (p .1 .1 .1) (p .1 .1 .0) (to .ensures .0) (ap (λ (l : List ℕ). set l (to .result) (a .tag)) (c .before .before .before .put .ensures .octets))
+    room-put (a .memory .now) (a .k) (a .i) (at .result) (at .ensures .0) _ (a .q .now) (a .tag) (to .result) (p .0) (p .1 .0) (p .1 .1 .1) (p .1 .1 .0)
+    (to .ensures .0) (ap (λ (l : List ℕ). set l (to .result) (a .tag)) (at-put .put .ensures .octets))
 
 pub put-room-spec : {M : Type 1} → statement M
 put-room-spec =

@@ -14,10 +14,15 @@ copy-requires c κs =
 
 returns : tie.Need-returns
 returns c =
-    let a = c .before .before .before .before .before .before .args in
-    let at = c .before .before .before .before .place in
-    let p = c .before .before .before .part-of in
-    octets-read (a .memory .now) (a .k) (a .i) (at .result) (at .ensures .0) (p .result .now) (c .before .copy .last .1 .0) (c .before .before .before .before .before .before .pre .1 .0) (omega (arith, at .ensures .1, c .before .before .before .before .before .before .pre .1 .1)) (p .ensures) (c .before .copy .ensures .1)
+    let at-copy = c .before in
+    let at-part-of = at-copy .before .before in
+    let at-place = at-part-of .before in
+    let start = at-place .before .before in
+    let a = start .args in
+    let at = at-place .place in
+    let p = at-part-of .part-of in
+    octets-read (a .memory .now) (a .k) (a .i) (at .result) (at .ensures .0) (p .result .now) (at-copy .copy .last .1 .0) (start .pre .1 .0)
+    (omega (arith, at .ensures .1, start .pre .1 .1)) (p .ensures) (at-copy .copy .ensures .1)
 
 pub room-octets-spec : {M : Type 1} → statement M
 room-octets-spec =

@@ -12,15 +12,19 @@ use Rattle.memory.proofs.rows.entry_of.Statement.{statement}
 use Rattle.memory.proofs.rows.entry_of.Tie as tie
 
 tagged-requires : tie.Need-tagged-requires
-tagged-requires c κs = let a = c .before .before .before .args in let p = c .before .before .before .pre in omega (arith, ap length (c .before .name-of .ensures) ∙ name-length (a .memory .now) (a .i) (p .0) (p .1))
+tagged-requires c κs = let a = c .before .before .before .args in let p =
+    c .before .before .before .pre in omega (arith, ap length (c .before .name-of .ensures) ∙ name-length (a .memory .now) (a .i) (p .0) (p .1))
 
 returns : tie.Need-returns
 returns c =
     let a = c .before .before .before .before .args in
     let p = c .before .before .before .before .pre in
     let r = c .tagged .ensures in
-    let n = ap length (c .before .before .name-of .ensures) ∙ name-length (a .memory .now) (a .i) (p .0) (p .1) in
-    (r .0 ∙ ap (λ (m : List ℕ). taggedEntry (octet (a .memory .now) (tagPlace (a .i))) m .key ++ taggedEntry (octet (a .memory .now) (tagPlace (a .i))) m .originator) (c .before .before .name-of .ensures), (r .1 .0, omega (arith, n, r .1 .1)))
+    let n = ap length (c .before .before .name-of .ensures) ∙ name-length (a .memory .now) (a .i) (p .0) (p .1) in (
+      r .0 ∙ ap (λ (m : List ℕ). taggedEntry (octet (a .memory .now) (tagPlace (a .i))) m .key ++ taggedEntry (octet (a .memory .now) (tagPlace (a .i))) m
+          .originator) (c .before .before .name-of .ensures),
+      (r .1 .0, omega (arith, n, r .1 .1)),
+    )
 
 pub entry-of-spec : {M : Type 1} → statement M
 entry-of-spec =

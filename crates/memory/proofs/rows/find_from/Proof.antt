@@ -21,13 +21,28 @@ row-is-requires : tie.Need-row-is-requires Inv-loop μ-loop
 row-is-requires c κs = let p = c .before .before .before .before .pre in ((p .0, c .loop-test .taken), p .1)
 
 returns : tie.Need-returns Inv-loop μ-loop
-returns c = let a = c .before .before .before .before .before .before .args in from-hit (holds (entryNamed (a .name .now))) (a .memory .now) (a .from) (c .before .before .before .loop .i) (c .before .before .loop-test .taken) (c .before .before .before .loop .inv) (sym (c .before .row-is .ensures) ∙ c .if1 .taken)
+returns c =
+    let at-row-is = c .before in
+    let at-loop-test = at-row-is .before in
+    let at-loop = at-loop-test .before in
+    let start = at-loop .before .before .before in
+    let a = start .args in
+    from-hit (holds (entryNamed (a .name .now))) (a .memory .now) (a .from) (at-loop .loop .i) (at-loop-test .loop-test .taken) (at-loop .loop .inv)
+    (sym (at-row-is .row-is .ensures) ∙ c .if1 .taken)
 
 loop-again : tie.Need-loop-again Inv-loop μ-loop
-loop-again c = let a = c .before .before .before .before .before .before .args in from-miss (holds (entryNamed (a .name .now))) (a .memory .now) (a .from) (c .before .before .before .loop .i) (c .before .before .loop-test .taken) (c .before .before .before .loop .inv) (sym (c .before .row-is .ensures) ∙ c .if1 .left)
+loop-again c =
+    let at-row-is = c .before in
+    let at-loop-test = at-row-is .before in
+    let at-loop = at-loop-test .before in
+    let start = at-loop .before .before .before in
+    let a = start .args in
+    from-miss (holds (entryNamed (a .name .now))) (a .memory .now) (a .from) (at-loop .loop .i) (at-loop-test .loop-test .taken) (at-loop .loop .inv)
+    (sym (at-row-is .row-is .ensures) ∙ c .if1 .left)
 
 returns-2 : tie.Need-returns-2 Inv-loop μ-loop
-returns-2 c = let a = c .before .before .before .before .args in from-end (holds (entryNamed (a .name .now))) (a .memory .now) (a .from) (c .before .loop .i) (c .loop-test .left) (c .before .loop .inv)
+returns-2 c = let a = c .before .before .before .before .args in from-end (holds (entryNamed (a .name .now))) (a .memory .now) (a .from)
+    (c .before .loop .i) (c .loop-test .left) (c .before .loop .inv)
 
 pub find-from-spec : {M : Type 1} → statement M
 find-from-spec =

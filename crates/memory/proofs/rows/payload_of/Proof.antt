@@ -12,7 +12,8 @@ use Rattle.memory.proofs.rows.payload_of.Tie as tie
 returns : tie.Need-returns
 returns c =
     let a = c .before .before .before .before .args in
-    let e = c .part-of .ensures ∙ (λ z. part (a .memory .now) (rowPlace (a .i) + namePlace + c .before .before .key-room .ensures .0 z + 4) (c .before .payload-len .ensures .0 z)) in
+    let e = c .part-of .ensures ∙ (λ z. part (a .memory .now) (rowPlace (a .i) + namePlace + c .before .before .key-room .ensures .0 z + 4)
+    (c .before .payload-len .ensures .0 z)) in
     (e, omega (arith, ap length e, payload-short (a .memory .now) (a .i)))
 
 pub payload-of-spec : {M : Type 1} → statement M

@@ -15,7 +15,9 @@ loop-holds : tie.Need-loop-holds Inv-loop μ-loop
 loop-holds c = counted-none (c .before .args .memory .now)
 
 loop-again : tie.Need-loop-again Inv-loop μ-loop
-loop-again c = counted-more (c .before .before .before .before .before .args .memory .now) (c .before .before .before .loop .n) (c .before .before .before .loop .i) (c .one-if .result) (c .before .before .loop-test .taken) (c .before .before .before .loop .inv) (c .one-if .ensures)
+loop-again c = counted-more (c .before .before .before .before .before .args .memory .now) (c .before .before .before .loop .n)
+    (c .before .before .before .loop .i) (c .one-if .result) (c .before .before .loop-test .taken) (c .before .before .before .loop .inv)
+    (c .one-if .ensures)
 
 returns : tie.Need-returns Inv-loop μ-loop
 returns c = counted-all (c .before .before .before .args .memory .now) (c .before .loop .n) (c .before .loop .i) (c .loop-test .left) (c .before .loop .inv)

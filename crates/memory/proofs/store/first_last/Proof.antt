@@ -17,13 +17,21 @@ loop-holds c = last-start (c .before .args .memory .now) 255
 
 loop-again : tie.Need-loop-again Inv-loop μ-loop
 loop-again c =
-    let a = c .before .before .before .before .before .before .before .before .args in
-    let l = c .before .before .before .before .before .before .loop in
-    last-more (a .memory .now) (λ j. omega (arith, c .before .before .before .before .before .before .before .shared-slice-known .given j)) (l .i) (l .best) (c .before .last-or-none .result) (c .least .result) (c .before .before .before .before .before .loop-test .taken) (l .inv) (c .before .last-or-none .ensures) (c .least .ensures)
+    let at-last-or-none = c .before in
+    let at-loop-test = at-last-or-none .before .before .before .before in
+    let at-loop = at-loop-test .before in
+    let at-shared-slice-known = at-loop .before in
+    let start = at-shared-slice-known .before in
+    let a = start .args in
+    let l = at-loop .loop in
+    last-more (a .memory .now) (λ j. omega (arith, at-shared-slice-known .shared-slice-known .given j)) (l .i) (l .best)
+    (at-last-or-none .last-or-none .result) (c .least .result) (at-loop-test .loop-test .taken) (l .inv) (at-last-or-none .last-or-none .ensures)
+    (c .least .ensures)
 
 returns : tie.Need-returns Inv-loop μ-loop
 returns c =
-    last-all (c .before .before .before .args .memory .now) (λ j. omega (arith, c .before .before .shared-slice-known .given j)) (c .before .loop .i) (c .before .loop .best) (c .loop-test .left) (c .before .loop .inv)
+    last-all (c .before .before .before .args .memory .now) (λ j. omega (arith, c .before .before .shared-slice-known .given j)) (c .before .loop .i)
+    (c .before .loop .best) (c .loop-test .left) (c .before .loop .inv)
 
 pub first-last-spec : {M : Type 1} → statement M
 first-last-spec =

@@ -11,12 +11,21 @@ use Rattle.memory.proofs.store.put_head.Statement.{statement}
 use Rattle.memory.proofs.store.put_head.Tie as tie
 
 slice-write-memory-2 : tie.Need-slice-write-memory-2
-slice-write-memory-2 c = let a = c .before .before .before .before .before .before .before .args in let z = length-set (c .before .before .put .last .0) (4224 + a .i) (a .bits / 16777216) in omega (arith, z, c .before .before .put .kept .0, c .before .before .before .before .before .before .before .pre .0 .0, c .before .before .before .before .before .before .before .pre .0 .1)
+slice-write-memory-2 c =
+    let at-put = c .before .before in
+    let start = at-put .before .before .before .before .before in
+    let a = start .args in
+    let z = length-set (at-put .put .last .0) (4224 + a .i) (a .bits / 16777216) in
+    omega (arith, z, at-put .put .kept .0, start .pre .0 .0, start .pre .0 .1)
 
 returns : tie.Need-returns
 returns c =
-    let a = c .before .before .before .before .before .before .before .args in
-    ap (λ (l : List ℕ). set (set l (topPlace (a .i)) (a .bits / 16777216)) (markPlace (a .i)) (a .marks)) (c .before .before .put .ensures .octets ∙ ap (putAt (a .memory .now) (rowPlace (a .i))) (c .before .before .before .before .before .row-head .ensures))
+    let at-put = c .before .before in
+    let at-row-head = at-put .before .before .before in
+    let start = at-row-head .before .before in
+    let a = start .args in
+    ap (λ (l : List ℕ). set (set l (topPlace (a .i)) (a .bits / 16777216)) (markPlace (a .i)) (a .marks))
+    (at-put .put .ensures .octets ∙ ap (putAt (a .memory .now) (rowPlace (a .i))) (at-row-head .row-head .ensures))
 
 pub put-head-spec : {M : Type 1} → statement M
 put-head-spec =

@@ -22,17 +22,29 @@ loop-holds : tie.Need-loop-holds Inv-loop μ-loop
 loop-holds c = (refl, swept-first (c .before .before .before .args .memory .now) (c .first-last .result) (c .first-last .ensures))
 
 sweep-row-requires : tie.Need-sweep-row-requires Inv-loop μ-loop
-sweep-row-requires c κs = (c .before .before .loop .inv .0 ∙ c .before .before .before .before .before .before .pre, c .before .loop-test .taken)
+sweep-row-requires c κs =
+    let at-loop-test = c .before in
+    let at-loop = at-loop-test .before in
+    let start = at-loop .before .before .before .before in
+    (at-loop .loop .inv .0 ∙ start .pre, at-loop-test .loop-test .taken)
 
 loop-again : tie.Need-loop-again Inv-loop μ-loop
 loop-again c =
-    let a = c .before .before .before .before .before .before .before .before .before .args .memory .now in
-    let l = c .before .before .before .before .before .loop in
-    let q = c .before .before .sweep-row in
-    (q .kept .0 ∙ l .inv .0, changed-more sweptRow a (l .memory) (l .i) (l .inv .1) (q .last .0) (c .before .before .before .before .loop-test .taken) (as-changed sweptRow (l .memory) (q .last .0) (l .i) (c .before .before .before .before .loop-test .taken) (q .ensures)))
+    let at-sweep-row = c .before .before in
+    let at-loop-test = at-sweep-row .before .before in
+    let at-loop = at-loop-test .before in
+    let start = at-loop .before .before .before .before in
+    let a = start .args .memory .now in
+    let l = at-loop .loop in
+    let q = at-sweep-row .sweep-row in (
+      q .kept .0 ∙ l .inv .0,
+      changed-more sweptRow a (l .memory) (l .i) (l .inv .1) (q .last .0) (at-loop-test .loop-test .taken)
+          (as-changed sweptRow (l .memory) (q .last .0) (l .i) (at-loop-test .loop-test .taken) (q .ensures)),
+    )
 
 returns : tie.Need-returns Inv-loop μ-loop
-returns c = changed-all sweptRow (c .before .before .before .before .before .args .memory .now) (c .before .loop .memory) (c .before .loop .i) (c .before .loop .inv .1) (c .loop-test .left)
+returns c = changed-all sweptRow (c .before .before .before .before .before .args .memory .now) (c .before .loop .memory) (c .before .loop .i)
+    (c .before .loop .inv .1) (c .loop-test .left)
 
 pub sweep-spec : {M : Type 1} → statement M
 sweep-spec =

@@ -12,10 +12,15 @@ returns c =
 
 returns-2 : tie.Need-returns-2
 returns-2 c =
-    let a = c .before .before .before .before .before .before .before .before .before .args in
-    let up = c .before .before .before .before .before .is-up-to-date in
-    let j = c .before .before .join in
-    taken-joins (a .memory .now) (a .k) (entryNamed (a .name .now)) (a .number) (a .missed) (j .last .0) (j .result) (sym (up .ensures) ∙ c .before .before .before .before .if1 .left) (j .ensures)
+    let at-join = c .before .before in
+    let at-if1 = at-join .before .before in
+    let at-is-up-to-date = at-if1 .before in
+    let start = at-is-up-to-date .before .before .before .before in
+    let a = start .args in
+    let up = at-is-up-to-date .is-up-to-date in
+    let j = at-join .join in
+    taken-joins (a .memory .now) (a .k) (entryNamed (a .name .now)) (a .number) (a .missed) (j .last .0) (j .result) (sym (up .ensures) ∙ at-if1 .if1 .left)
+    (j .ensures)
 
 pub take-in-spec : {M : Type 1} → statement M
 take-in-spec =

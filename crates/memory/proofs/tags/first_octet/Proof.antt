@@ -18,10 +18,20 @@ loop-holds : tie.Need-loop-holds Inv-loop μ-loop
 loop-holds c = (omega arith, first-none (λ j. octet (c .before .args .memory .now) (c .before .args .at + j) ≡ c .before .args .t))
 
 loop-again : tie.Need-loop-again Inv-loop μ-loop
-loop-again c = let a = c .before .before .before .before .before .before .args in (omega arith, octet-more (a .memory .now) (a .at) (a .t) (c .before .before .before .before .loop .i) (c .before .before .before .before .loop .best) (c .before .place-if .result) (c .least .result) (c .before .before .before .before .loop .inv .1) (c .before .before .before .loop-test .taken) (c .before .place-if .ensures) (c .least .ensures))
+loop-again c =
+    let at-place-if = c .before in
+    let at-loop-test = at-place-if .before .before in
+    let at-loop = at-loop-test .before in
+    let start = at-loop .before .before in
+    let a = start .args in (
+      omega arith,
+      octet-more (a .memory .now) (a .at) (a .t) (at-loop .loop .i) (at-loop .loop .best) (at-place-if .place-if .result) (c .least .result)
+          (at-loop .loop .inv .1) (at-loop-test .loop-test .taken) (at-place-if .place-if .ensures) (c .least .ensures),
+    )
 
 returns : tie.Need-returns Inv-loop μ-loop
-returns c = let a = c .before .before .before .args in first-octet (a .memory .now) (a .at) (a .t) (c .before .loop .i) (c .before .loop .best) (c .loop-test .left) (c .before .loop .inv .0) (c .before .loop .inv .1)
+returns c = let a = c .before .before .before .args in first-octet (a .memory .now) (a .at) (a .t) (c .before .loop .i) (c .before .loop .best)
+    (c .loop-test .left) (c .before .loop .inv .0) (c .before .loop .inv .1)
 
 pub first-octet-spec : {M : Type 1} → statement M
 first-octet-spec =

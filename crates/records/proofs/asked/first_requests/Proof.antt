@@ -22,16 +22,54 @@ loop-holds : tie.Need-loop-holds Inv-loop μ-loop
 loop-holds c = let a = c .before .before .before .before .args in asking-none (a .memory .now) (a .k) (c .at-most-four .result) (a .out .now)
 
 put-request-requires : tie.Need-put-request-requires Inv-loop μ-loop
-put-request-requires c κs = let a = c .before .before .before .before .before .before .before .args in let w = c .before .before .before .before .before .before .before .pre in let l = c .before .before .loop in let m = c .before .before .before .at-most-four in let n = c .before .before .before .before .count in ((w .0 .0, (w .0 .1, omega (arith, m .ensures, c .before .loop-test .taken))), asking-room (a .memory .now) (a .k) (m .result) (a .out .now) (n .result) (n .ensures .0) (m .ensures) (l .out) (l .next) (l .i) (l .inv) (c .before .loop-test .taken) (w .1))
+put-request-requires c κs =
+    let at-loop-test = c .before in
+    let at-loop = at-loop-test .before in
+    let at-at-most-four = at-loop .before in
+    let at-count = at-at-most-four .before in
+    let start = at-count .before .before .before in
+    let a = start .args in
+    let w = start .pre in
+    let l = at-loop .loop in
+    let m = at-at-most-four .at-most-four in
+    let n = at-count .count in (
+      (w .0 .0, (w .0 .1, omega (arith, m .ensures, at-loop-test .loop-test .taken))),
+      asking-room (a .memory .now) (a .k) (m .result) (a .out .now)
+          (n .result) (n .ensures .0) (m .ensures) (l .out) (l .next) (l .i) (l .inv) (at-loop-test .loop-test .taken) (w .1),
+    )
 
 loop-again : tie.Need-loop-again Inv-loop μ-loop
-loop-again c = let a = c .before .before .before .before .before .before .before .before .before .before .args in let w = c .before .before .before .before .before .before .before .before .before .before .pre in let l = c .before .before .before .before .before .loop in let m = c .before .before .before .before .before .before .at-most-four in let n = c .before .before .before .before .before .before .before .count in let q = c .before .before .put-request in asking-more (a .memory .now) (a .k) (m .result) (a .out .now) (n .result) (n .ensures .0) (m .ensures) (l .out) (l .next) (l .i) (l .inv) (c .before .before .before .before .loop-test .taken) (w .1) (q .last .1 .1 .1 .0) (q .result) (q .kept .1 .1 .1 .0) (q .ensures)
+loop-again c =
+    let at-put-request = c .before .before in
+    let at-loop-test = at-put-request .before .before in
+    let at-loop = at-loop-test .before in
+    let at-at-most-four = at-loop .before in
+    let at-count = at-at-most-four .before in
+    let start = at-count .before .before .before in
+    let a = start .args in
+    let w = start .pre in
+    let l = at-loop .loop in
+    let m = at-at-most-four .at-most-four in
+    let n = at-count .count in
+    let q = at-put-request .put-request in
+    asking-more (a .memory .now) (a .k) (m .result) (a .out .now) (n .result) (n .ensures .0) (m .ensures) (l .out) (l .next) (l .i) (l .inv)
+    (at-loop-test .loop-test .taken) (w .1) (q .last .1 .1 .1 .0) (q .result) (q .kept .1 .1 .1 .0) (q .ensures)
 
 same-length : tie.Need-same-length Inv-loop μ-loop
 same-length c = c .before .loop .inv .long
 
 returns : tie.Need-returns Inv-loop μ-loop
-returns c = let a = c .before .before .before .before .before .before .args in let l = c .before .loop in let m = c .before .before .at-most-four in let n = c .before .before .before .count in asking-all (a .memory .now) (a .k) (m .result) (a .out .now) (n .result) (n .ensures .0) (m .ensures) (l .out) (l .next) (l .i) (l .inv) (c .loop-test .left)
+returns c =
+    let at-loop = c .before in
+    let at-at-most-four = at-loop .before in
+    let at-count = at-at-most-four .before in
+    let start = at-count .before .before .before in
+    let a = start .args in
+    let l = at-loop .loop in
+    let m = at-at-most-four .at-most-four in
+    let n = at-count .count in
+    asking-all (a .memory .now) (a .k) (m .result) (a .out .now) (n .result) (n .ensures .0) (m .ensures) (l .out) (l .next) (l .i) (l .inv)
+    (c .loop-test .left)
 
 pub first-requests-spec : {M : Type 1} → statement M
 first-requests-spec =

@@ -14,10 +14,28 @@ use Rattle.records.proofs.held.put_row.Statement.{statement}
 use Rattle.records.proofs.held.put_row.Tie as tie
 
 put-record-requires : tie.Need-put-record-requires
-put-record-requires c κs = (c .before .entry-of .ensures .1, (c .payload-of .ensures .1, c .before .before .before .before .before .before .pre .1))
+put-record-requires c κs =
+    let at-entry-of = c .before in
+    let start = at-entry-of .before .before .before .before .before in
+    (at-entry-of .entry-of .ensures .1, (c .payload-of .ensures .1, start .pre .1))
 
 returns : tie.Need-returns
-returns c = let a = c .before .before .before .before .before .before .before .before .before .args in let w = c .before .before .before .before .before .before .before .before .before .pre in let q = c .before .before .put-record in let y = c .before .before .before .payload-of in let x = c .before .before .before .before .entry-of in let z = c .before .before .before .before .before .before .number-of in puts-as 64 (a .at) (a .out .now) (q .last .0) (q .result) (ap (λ (r : CsaRecord). r ∷ []) (row-record (a .memory .now) (a .i) (w .0 .0) (w .0 .1) (x .result .now) (x .ensures .0) (z .result) (z .ensures) (a .hops) (y .result .now) (y .ensures .0))) (puts-one 64 (entryRecord (a .hops) false (z .result) (entryNamed (x .result .now)) (y .result .now)) (a .at) (length (x .result .now)) (length (y .result .now)) (a .out .now) (q .last .0) (q .result) (q .ensures) (omega (arith, x .ensures .1, y .ensures .1)))
+returns c =
+    let at-put-record = c .before .before in
+    let at-payload-of = at-put-record .before in
+    let at-entry-of = at-payload-of .before in
+    let at-number-of = at-entry-of .before .before in
+    let start = at-number-of .before .before .before in
+    let a = start .args in
+    let w = start .pre in
+    let q = at-put-record .put-record in
+    let y = at-payload-of .payload-of in
+    let x = at-entry-of .entry-of in
+    let z = at-number-of .number-of in
+    puts-as 64 (a .at) (a .out .now) (q .last .0) (q .result) (ap (λ (r : CsaRecord). r ∷ [])
+    (row-record (a .memory .now) (a .i) (w .0 .0) (w .0 .1) (x .result .now) (x .ensures .0) (z .result) (z .ensures) (a .hops) (y .result .now)
+    (y .ensures .0))) (puts-one 64 (entryRecord (a .hops) false (z .result) (entryNamed (x .result .now)) (y .result .now)) (a .at)
+    (length (x .result .now)) (length (y .result .now)) (a .out .now) (q .last .0) (q .result) (q .ensures) (omega (arith, x .ensures .1, y .ensures .1)))
 
 pub put-row-spec : {M : Type 1} → statement M
 put-row-spec =

@@ -4,10 +4,20 @@ use Rattle.records.proofs.held.put_used.Statement.{statement}
 use Rattle.records.proofs.held.put_used.Tie as tie
 
 returns : tie.Need-returns
-returns c = let a = c .before .before .before .before .before .before .before .before .before .args in let q = c .before .before .before .put-as in let u = c .before .before .before .before .before .before .is-used in row-put (a .whole) (a .memory .now) (a .i) (a .to) (a .out .now) (u .result) (u .ensures) (q .last .1 .1 .1 .0) (q .result) (c .before .before .before .before .before .if1 .taken) (q .ensures)
+returns c =
+    let at-put-as = c .before .before .before in
+    let at-if1 = at-put-as .before .before in
+    let at-is-used = at-if1 .before in
+    let start = at-is-used .before .before .before in
+    let a = start .args in
+    let q = at-put-as .put-as in
+    let u = at-is-used .is-used in
+    row-put (a .whole) (a .memory .now) (a .i) (a .to) (a .out .now) (u .result) (u .ensures) (q .last .1 .1 .1 .0) (q .result) (at-if1 .if1 .taken)
+    (q .ensures)
 
 returns-2 : tie.Need-returns-2
-returns-2 c = let a = c .before .before .before .before .args in let u = c .before .is-used in row-passed (a .whole) (a .memory .now) (a .i) (a .to) (a .out .now) (u .result) (u .ensures) (c .if1 .left)
+returns-2 c = let a = c .before .before .before .before .args in let u =
+    c .before .is-used in row-passed (a .whole) (a .memory .now) (a .i) (a .to) (a .out .now) (u .result) (u .ensures) (c .if1 .left)
 
 pub put-used-spec : {M : Type 1} → statement M
 put-used-spec =

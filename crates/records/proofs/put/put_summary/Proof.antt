@@ -10,7 +10,13 @@ use Rattle.records.proofs.put.put_summary.Statement.{statement}
 use Rattle.records.proofs.put.put_summary.Tie as tie
 
 returns : tie.Need-returns
-returns c = let a = c .before .before .before .before .before .before .before .args in let q = c .before .before .put-record in puts-one 32 (entryRecord 1 false (a .number) (entryNamed (a .name .now)) []) (a .at) (length (a .name .now)) 0 (a .out .now) (q .last .0) (q .result) (q .ensures) (omega (arith, c .before .before .before .before .before .before .before .pre))
+returns c =
+    let at-put-record = c .before .before in
+    let start = at-put-record .before .before .before .before .before in
+    let a = start .args in
+    let q = at-put-record .put-record in
+    puts-one 32 (entryRecord 1 false (a .number) (entryNamed (a .name .now)) []) (a .at) (length (a .name .now)) 0 (a .out .now) (q .last .0) (q .result)
+    (q .ensures) (omega (arith, start .pre))
 
 pub put-summary-spec : {M : Type 1} → statement M
 put-summary-spec =

@@ -6,10 +6,23 @@ use Rattle.records.proofs.replies.reply_one.Statement.{statement}
 use Rattle.records.proofs.replies.reply_one.Tie as tie
 
 reply-record-requires : tie.Need-reply-record-requires
-reply-record-requires c κs = let a = c .before .before .before .before .before .args in let q = c .before .before .before .before .before .pre in let v = csaAt (a .p .now) (a .r) in let x = c .before .name in let y = c .number in ((q .0, q .1 .0), named-fits v (x .result .now) (y .result) (named v (x .result .now) (y .result) (q .1 .1 .1) (x .ensures) (y .ensures)))
+reply-record-requires c κs = let a = c .before .before .before .before .before .args in let q = c .before .before .before .before .before .pre in let v =
+    csaAt (a .p .now) (a .r) in let x = c .before .name in let y =
+    c .number in ((q .0, q .1 .0), named-fits v (x .result .now) (y .result) (named v (x .result .now) (y .result) (q .1 .1 .1) (x .ensures) (y .ensures)))
 
 returns : tie.Need-returns
-returns c = let a = c .before .before .before .before .before .before .before .before .args in let v = csaAt (a .p .now) (a .r) in let x = c .before .before .before .before .name in let y = c .before .before .before .number in let r = c .before .before .reply-record in replies-one (a .k) v (a .memory .now) (r .last .0) (x .result .now) (y .result) (named v (x .result .now) (y .result) (c .before .before .before .before .before .before .before .before .pre .1 .1 .1) (x .ensures) (y .ensures)) (r .ensures .0)
+returns c =
+    let at-reply-record = c .before .before in
+    let at-number = at-reply-record .before in
+    let at-name = at-number .before in
+    let start = at-name .before .before .before .before in
+    let a = start .args in
+    let v = csaAt (a .p .now) (a .r) in
+    let x = at-name .name in
+    let y = at-number .number in
+    let r = at-reply-record .reply-record in
+    replies-one (a .k) v (a .memory .now) (r .last .0) (x .result .now) (y .result)
+    (named v (x .result .now) (y .result) (start .pre .1 .1 .1) (x .ensures) (y .ensures)) (r .ensures .0)
 
 pub reply-one-spec : {M : Type 1} → statement M
 reply-one-spec =

@@ -13,7 +13,14 @@ use Rattle.records.proofs.solicited.put_null.Statement.{statement}
 use Rattle.records.proofs.solicited.put_null.Tie as tie
 
 returns : tie.Need-returns
-returns c = let a = c .before .before .before .before .before .before .before .args in let q = c .before .before .put-record in λ v n. puts-as 64 (a .at) (a .out .now) (q .last .0) (q .result) (ap (λ (r : CsaRecord). r ∷ []) (named-null v (a .name .now) (a .number) n)) (puts-one 64 (entryRecord 1 true (a .number) (entryNamed (a .name .now)) []) (a .at) (length (a .name .now)) 0 (a .out .now) (q .last .0) (q .result) (q .ensures) (omega (arith, c .before .before .before .before .before .before .before .pre .0)))
+returns c =
+    let at-put-record = c .before .before in
+    let start = at-put-record .before .before .before .before .before in
+    let a = start .args in
+    let q = at-put-record .put-record in
+    λ v n. puts-as 64 (a .at) (a .out .now) (q .last .0) (q .result) (ap (λ (r : CsaRecord). r ∷ []) (named-null v (a .name .now) (a .number) n))
+    (puts-one 64 (entryRecord 1 true (a .number) (entryNamed (a .name .now)) []) (a .at) (length (a .name .now)) 0 (a .out .now) (q .last .0) (q .result)
+    (q .ensures) (omega (arith, start .pre .0)))
 
 pub put-null-spec : {M : Type 1} → statement M
 put-null-spec =

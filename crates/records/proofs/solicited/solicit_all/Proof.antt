@@ -13,19 +13,43 @@ abbrev μ-loop : tie.MeasureT-loop
 μ-loop memory p out₀ at₀ left₀ to₀ out at left to = left
 
 loop-holds : tie.Need-loop-holds Inv-loop μ-loop
-loop-holds c = let a = c .before .before .before .args in soliciting-none (a .memory .now) (a .p .now) (a .c) (a .out .now) (c .before .before .before .pre .1 .0)
+loop-holds c = let a = c .before .before .before .args in soliciting-none (a .memory .now) (a .p .now) (a .c) (a .out .now)
+    (c .before .before .before .pre .1 .0)
 
 solicit-one-requires : tie.Need-solicit-one-requires Inv-loop μ-loop
-solicit-one-requires c κs = let a = c .before .before .before .before .before .before .args in let l = c .before .before .loop in let t = c .before .loop-test .taken in (c .before .before .before .before .before .before .pre .0, (walk-fits (a .p .now) (l .at) (l .left) (l .inv .walks) t, soliciting-room (a .memory .now) (a .p .now) (a .c) (a .out .now) (l .out) (l .at) (l .left) (l .to) (l .inv) t (c .before .before .before .before .before .before .pre .1 .1)))
+solicit-one-requires c κs =
+    let at-loop-test = c .before in
+    let at-loop = at-loop-test .before in
+    let start = at-loop .before .before .before .before in
+    let a = start .args in
+    let l = at-loop .loop in
+    let t = at-loop-test .loop-test .taken in (
+      start .pre .0,
+      (
+        walk-fits (a .p .now) (l .at) (l .left) (l .inv .walks) t,
+        soliciting-room (a .memory .now) (a .p .now) (a .c) (a .out .now) (l .out)
+            (l .at) (l .left) (l .to) (l .inv) t (start .pre .1 .1),
+      ),
+    )
 
 loop-again : tie.Need-loop-again Inv-loop μ-loop
-loop-again c = let a = c .before .before .before .before .before .before .before .before .before .before .args in let l = c .before .before .before .before .before .before .loop in let q = c .before .before .before .solicit-one in soliciting-more (a .memory .now) (a .p .now) (a .c) (a .out .now) (l .out) (l .at) (l .left) (l .to) (l .inv) (c .before .before .before .before .before .loop-test .taken) (c .before .before .before .before .before .before .before .before .before .before .pre .1 .1) (q .last .1 .1 .1 .0) (q .result) (c .size .result) (q .kept .1 .1 .1 .0) (q .ensures) (c .size .ensures)
+loop-again c =
+    let at-solicit-one = c .before .before .before in
+    let at-loop-test = at-solicit-one .before .before in
+    let at-loop = at-loop-test .before in
+    let start = at-loop .before .before .before .before in
+    let a = start .args in
+    let l = at-loop .loop in
+    let q = at-solicit-one .solicit-one in
+    soliciting-more (a .memory .now) (a .p .now) (a .c) (a .out .now) (l .out) (l .at) (l .left) (l .to) (l .inv) (at-loop-test .loop-test .taken)
+    (start .pre .1 .1) (q .last .1 .1 .1 .0) (q .result) (c .size .result) (q .kept .1 .1 .1 .0) (q .ensures) (c .size .ensures)
 
 same-length : tie.Need-same-length Inv-loop μ-loop
 same-length c = c .before .loop .inv .long
 
 returns : tie.Need-returns Inv-loop μ-loop
-returns c = let a = c .before .before .before .before .before .args in let l = c .before .loop in soliciting-all (a .memory .now) (a .p .now) (a .c) (a .out .now) (l .out) (l .at) (l .left) (l .to) (l .inv) (c .loop-test .left)
+returns c = let a = c .before .before .before .before .before .args in let l =
+    c .before .loop in soliciting-all (a .memory .now) (a .p .now) (a .c) (a .out .now) (l .out) (l .at) (l .left) (l .to) (l .inv) (c .loop-test .left)
 
 pub solicit-all-spec : {M : Type 1} → statement M
 solicit-all-spec =

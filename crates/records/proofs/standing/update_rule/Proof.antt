@@ -11,13 +11,27 @@ returns : tie.Need-returns
 returns c = λ v a n f. rule-null (c .before .before .args .memory .now) v (sym a ∙ c .if1 .taken)
 
 number-of-requires : tie.Need-number-of-requires
-number-of-requires c κs = let i = c .before .found .given in (c .before .before .before .before .before .pre .0, found-index (c .before .before .before .before .before .args .found) (i .0 .0) (c .before .before .before .before .before .pre .1) (i .1))
+number-of-requires c κs = let i = c .before .found .given in (
+  c .before .before .before .before .before .pre .0,
+  found-index
+      (c .before .before .before .before .before .args .found) (i .0 .0) (c .before .before .before .before .before .pre .1) (i .1),
+)
 
 returns-2 : tie.Need-returns-2
-returns-2 c = let x = c .before .before .before .before .before .before .before .args in let i = c .before .before .before .found .given in λ v a n f. rule-held (x .memory .now) v (sym a ∙ c .before .before .before .before .before .if1 .left) (updateRuleOf (c .held-rule .result)) (x .number) n (i .0 .0) (c .before .number-of .result) (sym f ∙ i .1) (c .before .number-of .ensures) (c .held-rule .ensures)
+returns-2 c =
+    let at-number-of = c .before in
+    let at-found = at-number-of .before .before in
+    let at-if1 = at-found .before .before in
+    let start = at-if1 .before .before in
+    let x = start .args in
+    let i = at-found .found .given in
+    λ v a n f. rule-held (x .memory .now) v (sym a ∙ at-if1 .if1 .left) (updateRuleOf (c .held-rule .result)) (x .number) n (i .0 .0)
+    (at-number-of .number-of .result) (sym f ∙ i .1) (at-number-of .number-of .ensures) (c .held-rule .ensures)
 
 returns-3 : tie.Need-returns-3
-returns-3 c = let x = c .before .before .before .before .before .args in λ v a n f. rule-absent (x .memory .now) v (sym a ∙ c .before .before .before .if1 .left) (updateRuleOf (c .absent-rule .result)) (x .number) n (sym f ∙ c .before .enum-told .given .1) (c .absent-rule .ensures)
+returns-3 c = let x = c .before .before .before .before .before .args in λ v a n f. rule-absent (x .memory .now) v
+    (sym a ∙ c .before .before .before .if1 .left) (updateRuleOf (c .absent-rule .result)) (x .number) n (sym f ∙ c .before .enum-told .given .1)
+    (c .absent-rule .ensures)
 
 pub update-rule-spec : {M : Type 1} → statement M
 update-rule-spec =

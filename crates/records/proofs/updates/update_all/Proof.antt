@@ -14,13 +14,36 @@ abbrev μ-loop : tie.MeasureT-loop
 μ-loop memory₀ live k p out₀ at₀ left₀ to₀ memory out at left to = left
 
 loop-holds : tie.Need-loop-holds Inv-loop μ-loop
-loop-holds c = let a = c .before .before .before .args in updating-none (isMarked (a .live)) (a .k) (a .p .now) (a .c) (a .memory .now) (a .out .now) (c .before .before .before .pre .0 .1 .1)
+loop-holds c = let a = c .before .before .before .args in updating-none (isMarked (a .live)) (a .k) (a .p .now) (a .c) (a .memory .now) (a .out .now)
+    (c .before .before .before .pre .0 .1 .1)
 
 update-one-requires : tie.Need-update-one-requires Inv-loop μ-loop
-update-one-requires c κs = let a = c .before .before .before .before .before .before .before .args in let q = c .before .before .before .before .before .before .before .pre in let l = c .before .before .before .loop in let t = c .before .before .loop-test .taken in ((l .inv .long .0 ∙ q .0 .0, (q .0 .1 .0, walk-fits (a .p .now) (l .at) (l .left) (l .inv .walks) t)), updating-room (isMarked (a .live)) (a .k) (a .p .now) (a .c) (a .memory .now) (a .out .now) (l .memory) (l .out) (l .at) (l .left) (l .to) (l .inv) t (q .1))
+update-one-requires c κs =
+    let at-loop-test = c .before .before in
+    let at-loop = at-loop-test .before in
+    let start = at-loop .before .before .before .before in
+    let a = start .args in
+    let q = start .pre in
+    let l = at-loop .loop in
+    let t = at-loop-test .loop-test .taken in (
+      (l .inv .long .0 ∙ q .0 .0, (q .0 .1 .0, walk-fits (a .p .now) (l .at) (l .left) (l .inv .walks) t)),
+      updating-room (isMarked (a .live)) (a .k)
+          (a .p .now) (a .c) (a .memory .now) (a .out .now) (l .memory) (l .out) (l .at) (l .left) (l .to) (l .inv) t (q .1),
+    )
 
 loop-again : tie.Need-loop-again Inv-loop μ-loop
-loop-again c = let a = c .before .before .before .before .before .before .before .before .before .before .before .before .before .args in let q = c .before .before .before .before .before .before .before .before .before .before .before .before .before .pre in let l = c .before .before .before .before .before .before .before .before .before .loop in let u = c .before .before .before .before .before .update-one in updating-more (isMarked (a .live)) (a .k) (a .p .now) (a .c) (a .memory .now) (a .out .now) (l .memory) (l .out) (l .at) (l .left) (l .to) (l .inv) (c .before .before .before .before .before .before .before .before .loop-test .taken) (q .1) (q .0 .1 .0) (u .last .0) (u .last .1 .1 .1 .1 .1 .0) (u .result) (u .kept .0, u .kept .1 .1 .1 .1 .1 .0) (u .ensures) (c .size .result) (c .size .ensures)
+loop-again c =
+    let at-update-one = c .before .before .before .before .before in
+    let at-loop-test = at-update-one .before .before .before in
+    let at-loop = at-loop-test .before in
+    let start = at-loop .before .before .before .before in
+    let a = start .args in
+    let q = start .pre in
+    let l = at-loop .loop in
+    let u = at-update-one .update-one in
+    updating-more (isMarked (a .live)) (a .k) (a .p .now) (a .c) (a .memory .now) (a .out .now) (l .memory) (l .out) (l .at) (l .left) (l .to) (l .inv)
+    (at-loop-test .loop-test .taken) (q .1) (q .0 .1 .0) (u .last .0) (u .last .1 .1 .1 .1 .1 .0) (u .result) (u .kept .0, u .kept .1 .1 .1 .1 .1 .0)
+    (u .ensures) (c .size .result) (c .size .ensures)
 
 same-length : tie.Need-same-length Inv-loop μ-loop
 same-length c = c .before .loop .inv .long .0
@@ -29,7 +52,9 @@ same-length-2 : tie.Need-same-length-2 Inv-loop μ-loop
 same-length-2 c = c .before .loop .inv .long .1
 
 returns : tie.Need-returns Inv-loop μ-loop
-returns c = let a = c .before .before .before .before .before .args in let l = c .before .loop in updating-end (isMarked (a .live)) (a .k) (a .p .now) (a .c) (a .memory .now) (a .out .now) (l .memory) (l .out) (l .at) (l .left) (l .to) (l .inv) (c .loop-test .left)
+returns c = let a = c .before .before .before .before .before .args in let l =
+    c .before .loop in updating-end (isMarked (a .live)) (a .k) (a .p .now) (a .c) (a .memory .now) (a .out .now) (l .memory) (l .out) (l .at) (l .left)
+    (l .to) (l .inv) (c .loop-test .left)
 
 pub update-all-spec : {M : Type 1} → statement M
 update-all-spec =

@@ -7,7 +7,12 @@ returns : tie.Need-returns
 returns c = rw (sym (c .before .is-hello .ensures (c .before .before .before .before .args .p .now)) ∙ c .if1 .taken)
 
 returns-2 : tie.Need-returns-2
-returns-2 c = rw (c .same .ensures, c .before .receiver .ensures, sym (c .before .before .before .is-hello .ensures (c .before .before .before .before .before .before .args .p .now)) ∙ c .before .before .if1 .left)
+returns-2 c =
+    let at-receiver = c .before in
+    let at-if1 = at-receiver .before in
+    let at-is-hello = at-if1 .before in
+    let start = at-is-hello .before .before .before in
+    rw (c .same .ensures, at-receiver .receiver .ensures, sym (at-is-hello .is-hello .ensures (start .args .p .now)) ∙ at-if1 .if1 .left)
 
 pub is-for-other-spec : {M : Type 1} → statement M
 is-for-other-spec =

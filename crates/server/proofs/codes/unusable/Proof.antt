@@ -17,20 +17,24 @@ returns c = λ s p x n e. absurd (false≢true (sym n ∙ ap isCaKind (c .enum-t
 returns-2 : tie.Need-returns-2
 returns-2 c = λ s p x n e.
     ap not (c .is-past .ensures ∙ ap isPast (sym e))
-    ∙ sym (ap (λ (b : Body). rules.unusable s (messageOf p (c .before .before .before .args .h)) x b) (body-is p (c .before .before .before .args .h) (c .before .enum-told2 .given .1)))
+    ∙ sym (ap (λ (b : Body). rules.unusable s (messageOf p (c .before .before .before .args .h)) x b)
+    (body-is p (c .before .before .before .args .h) (c .before .enum-told2 .given .1)))
 
 returns-3 : tie.Need-returns-3
 returns-3 c = λ s p x n e.
     ap not (c .is-past2 .ensures ∙ ap isPast (sym e))
-    ∙ sym (ap (λ (b : Body). rules.unusable s (messageOf p (c .before .before .before .args .h)) x b) (body-is p (c .before .before .before .args .h) (c .before .enum-told3 .given .1)))
+    ∙ sym (ap (λ (b : Body). rules.unusable s (messageOf p (c .before .before .before .args .h)) x b)
+    (body-is p (c .before .before .before .args .h) (c .before .enum-told3 .given .1)))
 
 returns-4 : tie.Need-returns-4
 returns-4 c = λ s p x n e.
     ap not (c .is-past3 .ensures ∙ ap isPast (sym e))
-    ∙ sym (ap (λ (b : Body). rules.unusable s (messageOf p (c .before .before .before .args .h)) x b) (body-is p (c .before .before .before .args .h) (c .before .enum-told4 .given .1)))
+    ∙ sym (ap (λ (b : Body). rules.unusable s (messageOf p (c .before .before .before .args .h)) x b)
+    (body-is p (c .before .before .before .args .h) (c .before .enum-told4 .given .1)))
 
 returns-5 : tie.Need-returns-5
-returns-5 c = λ s p x n e. sym (ap (λ (b : Body). rules.unusable s (messageOf p (c .before .before .args .h)) x b) (body-is p (c .before .before .args .h) (c .enum-told5 .given .1)))
+returns-5 c = λ s p x n e. sym (ap (λ (b : Body). rules.unusable s (messageOf p (c .before .before .args .h)) x b)
+    (body-is p (c .before .before .args .h) (c .enum-told5 .given .1)))
 
 pub unusable-spec : {M : Type 1} → statement M
 unusable-spec =

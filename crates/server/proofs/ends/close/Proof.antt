@@ -8,10 +8,16 @@ use Rattle.server.proofs.ends.close.Tie as tie
 
 returns : tie.Need-returns
 returns c =
-    let a = c .before .before .before .before .before .before .before .before .before .args in
-    let entered = c .before .before .before .before .before .enters .ensures ∙ ap (enters (a .from)) (c .before .before .before .before .before .before .alignment-at .ensures) in
-    let sweep = c .before .before .before .either .ensures ∙ ap (λ (b : Bool). a .changes || b) entered in
-    closed (a .changes) (c .before .before .before .either .result) (a .from) (a .s) (a .slots .now) (a .memory .now) (c .before .before .sweep-if .last .0) (a .k) (a .time) (c .before .before .before .before .before .before .before .before .before .pre .1 .1) sweep (c .before .before .sweep-if .ensures)
+    let at-sweep-if = c .before .before in
+    let at-either = at-sweep-if .before in
+    let at-enters = at-either .before .before in
+    let at-alignment-at = at-enters .before in
+    let start = at-alignment-at .before .before .before in
+    let a = start .args in
+    let entered = at-enters .enters .ensures ∙ ap (enters (a .from)) (at-alignment-at .alignment-at .ensures) in
+    let sweep = at-either .either .ensures ∙ ap (λ (b : Bool). a .changes || b) entered in
+    closed (a .changes) (at-either .either .result) (a .from) (a .s) (a .slots .now) (a .memory .now) (at-sweep-if .sweep-if .last .0) (a .k) (a .time)
+    (start .pre .1 .1) sweep (at-sweep-if .sweep-if .ensures)
 
 pub close-spec : {M : Type 1} → statement M
 close-spec =

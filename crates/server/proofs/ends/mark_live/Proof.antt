@@ -5,7 +5,8 @@ use Rattle.server.proofs.ends.mark_live.Statement.{statement}
 use Rattle.server.proofs.ends.mark_live.Tie as tie
 
 returns : tie.Need-returns
-returns c = rw (sym (ap isLive (c .before .before .before .alignment-at .ensures)) ∙ sym (c .before .before .is-live .ensures) ∙ c .before .if1 .taken) (c .with-mark .ensures)
+returns c = rw (sym (ap isLive (c .before .before .before .alignment-at .ensures)) ∙ sym (c .before .before .is-live .ensures) ∙ c .before .if1 .taken)
+    (c .with-mark .ensures)
 
 returns-2 : tie.Need-returns-2
 returns-2 c = rw (sym (ap isLive (c .before .before .alignment-at .ensures)) ∙ sym (c .before .is-live .ensures) ∙ c .if1 .left)

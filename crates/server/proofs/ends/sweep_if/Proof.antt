@@ -9,8 +9,11 @@ use Rattle.server.proofs.ends.sweep_if.Tie as tie
 
 returns : tie.Need-returns
 returns c =
-    let m = c .before .before .before .before .before .before .args .memory .now in
-    c .before .before .sweep .ensures ∙ sym (ap (λ (b : Bool). withRows (sweptIf b (rowsIn m)) (memoryOf m)) (c .before .before .before .before .if1 .taken))
+    let at-sweep = c .before .before in
+    let at-if1 = at-sweep .before .before in
+    let start = at-if1 .before .before in
+    let m = start .args .memory .now in
+    at-sweep .sweep .ensures ∙ sym (ap (λ (b : Bool). withRows (sweptIf b (rowsIn m)) (memoryOf m)) (at-if1 .if1 .taken))
 
 returns-2 : tie.Need-returns-2
 returns-2 c =

@@ -11,33 +11,55 @@ use Rattle.server.proofs.links.link_up.Tie as tie
 
 told : (c : tie.After-enum-told) → c .before .before .before .before .before .before .args .k < 8
 told c =
-    let a = c .before .before .before .before .before .before .args in
-    link-taken (serverOf (a .s) (a .slots .now) (a .memory .now)) (a .k) (a .time) (c .before .before .link-code .result) (c .before .before .link-code .ensures (a .memory .now)) (c .enum-told .given .1)
+    let at-link-code = c .before .before in
+    let start = at-link-code .before .before .before .before in
+    let a = start .args in
+    link-taken (serverOf (a .s) (a .slots .now) (a .memory .now)) (a .k) (a .time) (at-link-code .link-code .result)
+    (at-link-code .link-code .ensures (a .memory .now)) (c .enum-told .given .1)
 
 alignment-at-requires : tie.Need-alignment-at-requires
 alignment-at-requires c κs = (search needs, told (c .before))
 
 up-requires : tie.Need-up-requires
-up-requires c κs = (c .before .before .before .before .before .before .before .before .before .before .pre .0, (c .before .before .before .before .before .before .before .before .before .before .pre .1, told (c .before .before .before .before)))
+up-requires c κs =
+    let at-told = c .before .before .before .before in
+    let start = at-told .before .before .before .before .before .before in
+    (start .pre .0, (start .pre .1, told at-told))
 
 taken-requires : tie.Need-taken-requires
-taken-requires c κs = (c .before .before .before .before .before .before .up .kept .0 ∙ c .before .before .before .before .before .before .before .before .before .before .before .before .before .before .before .before .before .pre .0, (c .before .before .before .before .before .before .up .kept .1 .0 ∙ c .before .before .before .before .before .before .before .before .before .before .before .before .before .before .before .before .before .pre .1, told (c .before .before .before .before .before .before .before .before .before .before .before)))
+taken-requires c κs =
+    let at-up = c .before .before .before .before .before .before in
+    let at-told = at-up .before .before .before .before .before in
+    let start = at-told .before .before .before .before .before .before in
+    (at-up .up .kept .0 ∙ start .pre .0, (at-up .up .kept .1 .0 ∙ start .pre .1, told at-told))
 
 returns : tie.Need-returns
 unfolding codeOf
 returns c =
-    let a = c .before .before .before .before .before .before .before .before .args in
-    does-refused (linkUp (a .k) (a .time)) (a .s) (a .slots .now) (a .memory .now) (λ _. refl) (c .before .before .before .before .link-code .result) (c .before .before .f .given .0 .0) (c .refuse .result) (c .before .before .before .before .link-code .ensures (a .memory .now)) (c .before .before .f .given .1) (c .refuse .ensures)
+    let at-test = c .before .before in
+    let at-link-code = at-test .before .before in
+    let start = at-link-code .before .before .before .before in
+    let a = start .args in
+    does-refused (linkUp (a .k) (a .time)) (a .s) (a .slots .now) (a .memory .now) (λ _. refl) (at-link-code .link-code .result) (at-test .f .given .0 .0)
+    (c .refuse .result) (at-link-code .link-code .ensures (a .memory .now)) (at-test .f .given .1) (c .refuse .ensures)
 
 returns-2 : tie.Need-returns-2
 unfolding codeOf
 returns-2 c =
-    let a = c .before .before .before .before .before .before .before .before .before .before .before .before .before .before .before .before .before .before .before .before .args in
-    let o = c .before .before .before .before .before .before .before .before .before .before .before .before .before .before .before .before .link-code in
-    let u = c .before .before .before .before .before .before .before .before .before .up in
-    let d = c .before .before .taken in
-    let from = c .before .before .before .before .before .before .before .before .before .before .before .before .alignment-at in
-    does-silent (linkUp (a .k) (a .time)) (a .s) (a .slots .now) (u .last .0) (a .k) (a .time) (a .memory .now) (u .last .1 .0) (d .last .1 .1 .0) (o .result) (from .result) (d .result) (told (c .before .before .before .before .before .before .before .before .before .before .before .before .before .before)) refl refl refl refl (o .ensures (a .memory .now)) (c .before .before .before .before .before .before .before .before .before .before .before .before .before .before .enum-told .given .1) (from .ensures) (u .ensures .1) (u .ensures .0) (d .ensures .0) (d .ensures .1)
+    let at-taken = c .before .before in
+    let at-up = at-taken .before .before .before .before .before .before .before in
+    let at-alignment-at = at-up .before .before .before in
+    let at-test = at-alignment-at .before .before in
+    let at-link-code = at-test .before .before in
+    let start = at-link-code .before .before .before .before in
+    let a = start .args in
+    let o = at-link-code .link-code in
+    let u = at-up .up in
+    let d = at-taken .taken in
+    let from = at-alignment-at .alignment-at in
+    does-silent (linkUp (a .k) (a .time)) (a .s) (a .slots .now) (u .last .0) (a .k) (a .time) (a .memory .now) (u .last .1 .0) (d .last .1 .1 .0)
+    (o .result) (from .result) (d .result) (told at-test) refl refl refl refl (o .ensures (a .memory .now)) (at-test .enum-told .given .1) (from .ensures)
+    (u .ensures .1) (u .ensures .0) (d .ensures .0) (d .ensures .1)
 
 pub link-up-spec : {M : Type 1} → statement M
 link-up-spec =

@@ -7,19 +7,32 @@ use Rattle.server.proofs.links.up.Statement.{statement}
 use Rattle.server.proofs.links.up.Tie as tie
 
 put-hello-sent-requires : tie.Need-put-hello-sent-requires
-put-hello-sent-requires c κs = (c .before .before .before .before .before .move-to .kept .0 ∙ c .before .before .before .before .before .before .before .before .before .before .before .before .before .before .pre .0, c .before .before .before .before .before .before .before .before .before .before .before .before .before .before .pre .1 .1)
+put-hello-sent-requires c κs =
+    let at-move-to = c .before .before .before .before .before in
+    let start = at-move-to .before .before .before .before .before .before .before .before .before in
+    (at-move-to .move-to .kept .0 ∙ start .pre .0, start .pre .1 .1)
 
 returns : tie.Need-returns
 returns c =
-    let a = c .before .before .before .before .before .before .before .before .before .before .before .before .before .before .before .before .before .args in
-    let m = c .before .before .before .before .before .before .before .before .move-to in
-    let h = c .before .before .put-hello-sent in
-    up-put (a .k) (a .slots .now) (a .memory .now) (m .last .0) (h .last .0) (m .last .1 .0) (ap isDown (sym (c .before .before .before .before .before .before .before .before .before .before .before .before .before .hello-at .ensures)) ∙ sym (c .before .before .before .before .before .before .before .before .before .before .before .before .is-down .ensures) ∙ c .before .before .before .before .before .before .before .before .before .before .before .if1 .taken) (m .ensures) (h .ensures)
+    let at-put-hello-sent = c .before .before in
+    let at-move-to = at-put-hello-sent .before .before .before .before .before .before in
+    let at-if1 = at-move-to .before .before .before in
+    let at-is-down = at-if1 .before in
+    let at-hello-at = at-is-down .before in
+    let start = at-hello-at .before .before .before .before in
+    let a = start .args in
+    let m = at-move-to .move-to in
+    let h = at-put-hello-sent .put-hello-sent in
+    up-put (a .k) (a .slots .now) (a .memory .now) (m .last .0) (h .last .0) (m .last .1 .0)
+    (ap isDown (sym (at-hello-at .hello-at .ensures)) ∙ sym (at-is-down .is-down .ensures) ∙ at-if1 .if1 .taken) (m .ensures) (h .ensures)
 
 returns-2 : tie.Need-returns-2
 returns-2 c =
-    let a = c .before .before .before .before .before .before .args in
-    up-still (a .k) (a .slots .now) (a .memory .now) (ap isDown (sym (c .before .before .hello-at .ensures)) ∙ sym (c .before .is-down .ensures) ∙ c .if1 .left)
+    let at-is-down = c .before in
+    let at-hello-at = at-is-down .before in
+    let start = at-hello-at .before .before .before .before in
+    let a = start .args in
+    up-still (a .k) (a .slots .now) (a .memory .now) (ap isDown (sym (at-hello-at .hello-at .ensures)) ∙ sym (at-is-down .is-down .ensures) ∙ c .if1 .left)
 
 pub up-spec : {M : Type 1} → statement M
 up-spec =

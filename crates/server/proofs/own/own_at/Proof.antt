@@ -10,7 +10,8 @@ returns c =
     let spent = c .before .before .is-spent in
     let purged = c .before .is-purged in
     let a = c .before .before .before .before .before .args in
-    own-used (a .memory .now) (a .i) (number .result) (c .payload-of .result .now) (spent .result) (purged .result) _ (number .ensures) (c .payload-of .ensures .0) (spent .ensures) (purged .ensures) refl
+    own-used (a .memory .now) (a .i) (number .result) (c .payload-of .result .now) (spent .result) (purged .result) _ (number .ensures)
+    (c .payload-of .ensures .0) (spent .ensures) (purged .ensures) refl
 
 pub own-at-spec : {M : Type 1} → statement M
 own-at-spec = tie.close (tie.spec (λ c κs. search needs) (λ c κs. search needs) (λ c κs. search needs) (λ c κs. search needs) returns)

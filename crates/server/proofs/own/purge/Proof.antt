@@ -26,34 +26,48 @@ good c = sym (c .before .key-good .ensures) ∙ not-false (c .before .key-good .
 -- behind the search
 found : (c : tie.After-row-of) → FoundBelow (c .row-of .result)
 found c =
-    let a = c .before .before .before .before .before .before .before .args in
+    let start = c .before .before .before .before .before .before .before in
+    let a = start .args in
     found-some (holds (ownEntry (settingsOf (a .s .settings)) (a .key .now))) (a .memory .now) (c .row-of .result) (c .row-of .ensures)
 
 returns : tie.Need-returns
 unfolding codeOf
 returns c =
-    let test = c .before .before .key-good in
-    let a = c .before .before .before .before .before .before .args in
+    let at-if1 = c .before in
+    let at-key-good = at-if1 .before in
+    let start = at-key-good .before .before .before .before in
+    let test = at-key-good .key-good in
+    let a = start .args in
     does-refused (events.purge (a .key .now)) (a .s) (a .slots .now) (a .memory .now) (λ _. refl) (Refused Size) Size (c .refuse .result)
-    (purge-key (serverOf (a .s) (a .slots .now) (a .memory .now)) (a .key .now) (sym (test .ensures) ∙ not-true (test .result) (c .before .if1 .taken))) refl (c .refuse .ensures)
+    (purge-key (serverOf (a .s) (a .slots .now) (a .memory .now)) (a .key .now) (sym (test .ensures) ∙ not-true (test .result) (at-if1 .if1 .taken))) refl
+    (c .refuse .ensures)
 
 row-of-requires : tie.Need-row-of-requires
 row-of-requires c κs =
-    let at = c .before .before .before .before .before .before in
-    (at .pre .1, key-room (at .args .key .now) (at .args .s .settings .id) (good (c .before)) (search needs))
+    let at-good = c .before in
+    let at = at-good .before .before .before .before .before in
+    (at .pre .1, key-room (at .args .key .now) (at .args .s .settings .id) (good at-good) (search needs))
 
 purge-code-requires : tie.Need-purge-code-requires
-purge-code-requires c κs = (c .before .before .before .before .before .before .before .before .pre .1, found (c .before))
+purge-code-requires c κs =
+    let at-found = c .before in
+    let start = at-found .before .before .before .before .before .before .before in
+    (start .pre .1, found at-found)
 
 purge-taken-requires : tie.Need-purge-taken-requires
-purge-taken-requires c κs = (c .before .before .before .before .before .before .before .before .before .before .before .before .pre, found (c .before .before .before .before .before))
+purge-taken-requires c κs =
+    let at-found = c .before .before .before .before .before in
+    let start = at-found .before .before .before .before .before .before .before in
+    (start .pre, found at-found)
 
 returns-2 : tie.Need-returns-2
 unfolding codeOf
 returns-2 c =
-    let f = c .before .before .f .given in
-    let code = c .before .before .before .before .purge-code in
-    let at = c .before .before .before .before .before .before in
+    let at-test = c .before .before in
+    let at-purge-code = at-test .before .before in
+    let at = at-purge-code .before .before in
+    let f = at-test .f .given in
+    let code = at-purge-code .purge-code in
     let a = at .before .before .before .before .before .before .before .args in
     does-refused (events.purge (a .key .now)) (a .s) (a .slots .now) (a .memory .now) (λ _. refl) (code .result) (f .0 .0) (c .refuse2 .result)
     (code .ensures (a .s) (a .slots .now) (a .key .now) (good (at .before .before)) (at .row-of .ensures)) (f .1) (c .refuse2 .ensures)
@@ -65,7 +79,8 @@ returns-3 c =
     let code = told .before .before .purge-code in
     let at = told .before .before .before .before in
     let a = at .before .before .before .before .before .before .before .args in
-    purge-does (a .s) (a .slots .now) (a .memory .now) (taken .last .1 .0) (a .key .now) (code .result) (c .take .result) (told .enum-told .given .1) (c .take .ensures)
+    purge-does (a .s) (a .slots .now) (a .memory .now) (taken .last .1 .0) (a .key .now) (code .result) (c .take .result) (told .enum-told .given .1)
+    (c .take .ensures)
     (code .ensures (a .s) (a .slots .now) (a .key .now) (good (at .before .before)) (at .row-of .ensures))
     (taken .ensures (ownEntry (settingsOf (a .s .settings)) (a .key .now)) (at .row-of .ensures))
 

@@ -8,12 +8,15 @@ use Rattle.server.proofs.own.purge_taken.Statement.{statement}
 use Rattle.server.proofs.own.purge_taken.Tie as tie
 
 returns : tie.Need-returns
-returns c = λ e g.
-    let changed = c .before .before .before .before .before .before in
+returns c =
+    let at-sweep = c .before .before in
+    let changed = at-sweep .before .before .before .before in
+    λ e g.
     let live = changed .before .live-of in
     let a = changed .before .before .before .before .before .args in
-    swept-after (λ live. purgeRows live e) (a .memory .now) (changed .purge-entry .last .0) (c .before .before .sweep .last .0)
-    (isMarked (live .result)) (liveIn (slotsOf (a .slots .now) (a .memory .now))) (live .ensures (a .memory .now)) (changed .purge-entry .ensures .0 e g) (c .before .before .sweep .ensures)
+    swept-after (λ live. purgeRows live e) (a .memory .now) (changed .purge-entry .last .0) (at-sweep .sweep .last .0)
+    (isMarked (live .result)) (liveIn (slotsOf (a .slots .now) (a .memory .now))) (live .ensures (a .memory .now)) (changed .purge-entry .ensures .0 e g)
+    (at-sweep .sweep .ensures)
 
 pub purge-taken-spec : {M : Type 1} → statement M
 purge-taken-spec =

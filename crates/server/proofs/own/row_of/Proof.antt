@@ -16,7 +16,8 @@ returns : tie.Need-returns
 returns c =
     let named = c .before .before .before .before .before in
     let a = named .before .before .before .args in
-    found-same (c .find .result) (a .memory .now) (entryNamed (c .before .first .result .now)) (ownEntry (settingsOf (a .s .settings)) (a .key .now)) (ap entryNamed (c .before .first .ensures) ∙ named .own-name .ensures .0) (c .find .ensures)
+    found-same (c .find .result) (a .memory .now) (entryNamed (c .before .first .result .now)) (ownEntry (settingsOf (a .s .settings)) (a .key .now))
+    (ap entryNamed (c .before .first .ensures) ∙ named .own-name .ensures .0) (c .find .ensures)
 
 pub row-of-spec : {M : Type 1} → statement M
 row-of-spec = tie.close (tie.spec (λ c κs. search needs) (λ c κs. search needs) find-requires returns)

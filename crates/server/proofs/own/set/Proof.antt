@@ -28,10 +28,14 @@ fits c = sym (c .before .payload-good .ensures) ∙ not-false (c .before .payloa
 returns : tie.Need-returns
 unfolding codeOf
 returns c =
-    let test = c .before .before .key-good in
-    let a = c .before .before .before .before .before .before .before .args in
+    let at-if1 = c .before in
+    let at-key-good = at-if1 .before in
+    let start = at-key-good .before .before .before .before .before in
+    let test = at-key-good .key-good in
+    let a = start .args in
     does-refused (events.set (a .key .now) (a .payload .now)) (a .s) (a .slots .now) (a .memory .now) (λ _. refl) (Refused Size) Size (c .refuse .result)
-    (set-key (serverOf (a .s) (a .slots .now) (a .memory .now)) (a .key .now) (a .payload .now) (sym (test .ensures) ∙ not-true (test .result) (c .before .if1 .taken))) refl (c .refuse .ensures)
+    (set-key (serverOf (a .s) (a .slots .now) (a .memory .now)) (a .key .now) (a .payload .now)
+    (sym (test .ensures) ∙ not-true (test .result) (at-if1 .if1 .taken))) refl (c .refuse .ensures)
 
 returns-2 : tie.Need-returns-2
 unfolding codeOf
@@ -40,27 +44,39 @@ returns-2 c =
     let else = c .before .before .before in
     let a = else .before .before .before .before .before .before .args in
     does-refused (events.set (a .key .now) (a .payload .now)) (a .s) (a .slots .now) (a .memory .now) (λ _. refl) (Refused Size) Size (c .refuse2 .result)
-    (set-payload (serverOf (a .s) (a .slots .now) (a .memory .now)) (a .key .now) (good else) (a .payload .now) (sym (test .ensures) ∙ not-true (test .result) (c .before .if2 .taken))) refl (c .refuse2 .ensures)
+    (set-payload (serverOf (a .s) (a .slots .now) (a .memory .now)) (a .key .now) (good else) (a .payload .now)
+    (sym (test .ensures) ∙ not-true (test .result) (c .before .if2 .taken))) refl (c .refuse2 .ensures)
 
 own-name-requires : tie.Need-own-name-requires
 own-name-requires c κs =
-    let a = c .before .before .before .before .before .before .before .before .args in
-    key-room (a .key .now) (a .s .settings .id) (good (c .before .before)) (search needs)
+    let at-good = c .before .before in
+    let start = at-good .before .before .before .before .before .before in
+    let a = start .args in
+    key-room (a .key .now) (a .s .settings .id) (good at-good) (search needs)
 
 set-named-requires : tie.Need-set-named-requires
 set-named-requires c κs =
     let first = c .before .first in
     let named = c .before .before .before .before .before in
     let at = named .before .before .before .before .before .before .before .before .before in
-    let size = ap length (first .ensures) in
-    (at .pre, named-room (first .result .now) (at .args .payload .now) (omega (arith, size, named .own-name .ensures .1), omega (arith, size, named .own-name .ensures .1)) (fits (named .before)))
+    let size = ap length (first .ensures) in (
+      at .pre,
+      named-room (first .result .now) (at .args .payload .now) (
+        omega (arith, size, named .own-name .ensures .1),
+        omega
+            (arith, size, named .own-name .ensures .1),
+      ) (fits (named .before)),
+    )
 
 returns-3 : tie.Need-returns-3
 returns-3 c =
-    let first = c .before .before .before .before .first in
-    let named = c .before .before .before .before .before .before .before .before in
+    let at-set-named = c .before .before in
+    let at-first = at-set-named .before .before in
+    let named = at-first .before .before .before .before in
+    let first = at-first .first in
     let a = named .before .before .before .before .before .before .before .before .before .args in
-    c .before .before .set-named .ensures (a .key .now) (good (named .before .before .before)) (fits (named .before)) (ap entryNamed (first .ensures) ∙ named .own-name .ensures .0)
+    at-set-named .set-named .ensures (a .key .now) (good (named .before .before .before)) (fits (named .before))
+    (ap entryNamed (first .ensures) ∙ named .own-name .ensures .0)
 
 pub set-spec : {M : Type 1} → statement M
 set-spec =

@@ -16,15 +16,19 @@ use Rattle.server.proofs.own.set_named.Tie as tie
 
 set-code-requires : tie.Need-set-code-requires
 set-code-requires c κs =
-    let at = c .before .before .before .before .before .before .before in
-    (at .pre .0 .1, found-some (holds (entryNamed (at .args .name .now))) (at .args .memory .now) (c .before .find .result) (c .before .find .ensures))
+    let at-find = c .before in
+    let at = at-find .before .before .before .before .before .before in
+    (at .pre .0 .1, found-some (holds (entryNamed (at .args .name .now))) (at .args .memory .now) (at-find .find .result) (at-find .find .ensures))
 
 returns : tie.Need-returns
 unfolding codeOf
-returns c = λ key good fits e.
-    let f = c .before .before .f .given in
-    let code = c .before .before .before .before .set-code in
-    let at = c .before .before .before .before .before .before in
+returns c =
+    let at-test = c .before .before in
+    let at-set-code = at-test .before .before in
+    let at = at-set-code .before .before in
+    λ key good fits e.
+    let f = at-test .f .given in
+    let code = at-set-code .set-code in
     let a = at .before .before .before .before .before .before .args in
     let found = found-same (at .find .result) (a .memory .now) (entryNamed (a .name .now)) (ownEntry (settingsOf (a .s .settings)) key) e (at .find .ensures) in
     does-refused (events.set key (a .payload .now)) (a .s) (a .slots .now) (a .memory .now) (λ _. refl) (code .result) (f .0 .0) (c .refuse .result)
@@ -38,7 +42,8 @@ returns-2 c = λ key good fits e.
     let at = told .before .before .before .before in
     let a = at .before .before .before .before .before .before .args in
     let found = found-same (at .find .result) (a .memory .now) (entryNamed (a .name .now)) (ownEntry (settingsOf (a .s .settings)) key) e (at .find .ensures) in
-    set-does (a .s) (a .slots .now) (a .memory .now) (taken .last .1 .0) key (code .result) (c .take .result) (told .enum-told .given .1) (c .take .ensures) (a .payload .now) (entryNamed (a .name .now)) e
+    set-does (a .s) (a .slots .now) (a .memory .now) (taken .last .1 .0) key (code .result) (c .take .result) (told .enum-told .given .1) (c .take .ensures)
+    (a .payload .now) (entryNamed (a .name .now)) e
     (code .ensures (a .s) (a .slots .now) key (a .payload .now) good fits found) (taken .ensures)
 
 pub set-named-spec : {M : Type 1} → statement M

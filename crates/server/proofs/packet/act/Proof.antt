@@ -11,41 +11,72 @@ use Rattle.server.proofs.packet.act.Statement.{statement}
 use Rattle.server.proofs.packet.act.Tie as tie
 
 take-request-requires : tie.Need-take-request-requires
-take-request-requires c κs = let a = c .before .before .before .before .before .before .before .before .before .before .before .args in (c .before .before .before .before .before .before .before .before .before .before .before .pre .0, c .before .before .before .before .before .before .before .before .before .before .before .pre .1 .0 .walks (ap isHello (body-is (a .p .now) (a .h) (c .before .before .before .before .before .enum-told2 .given .1))))
+take-request-requires c κs =
+    let at-enum-told2 = c .before .before .before .before .before in
+    let start = at-enum-told2 .before .before .before .before .before .before in
+    let a = start .args in
+    (start .pre .0, start .pre .1 .0 .walks (ap isHello (body-is (a .p .now) (a .h) (at-enum-told2 .enum-told2 .given .1))))
 
 reply-all-requires : tie.Need-reply-all-requires
-reply-all-requires c κs = let a = c .before .before .before .before .before .before .before .before .args in (c .before .before .before .before .before .before .before .before .pre .0 .0 .1, (c .before .before .before .before .before .before .before .before .pre .0 .1 .0, c .before .before .before .before .before .before .before .before .pre .1 .0 .walks (ap isHello (body-is (a .p .now) (a .h) (c .before .before .enum-told3 .given .1)))))
+reply-all-requires c κs =
+    let at-enum-told3 = c .before .before in
+    let start = at-enum-told3 .before .before .before .before .before .before in
+    let a = start .args in
+    (start .pre .0 .0 .1, (start .pre .0 .1 .0, start .pre .1 .0 .walks (ap isHello (body-is (a .p .now) (a .h) (at-enum-told3 .enum-told3 .given .1)))))
 
 take-csus-requires : tie.Need-take-csus-requires
-take-csus-requires c κs = let a = c .before .before .before .before .before .before .before .before .before .args in (c .before .before .before .before .before .before .before .before .before .pre .0, c .before .before .before .before .before .before .before .before .before .pre .1 .0 .walks (ap isHello (body-is (a .p .now) (a .h) (c .before .before .before .enum-told4 .given .1))))
+take-csus-requires c κs =
+    let at-enum-told4 = c .before .before .before in
+    let start = at-enum-told4 .before .before .before .before .before .before in
+    let a = start .args in
+    (start .pre .0, start .pre .1 .0 .walks (ap isHello (body-is (a .p .now) (a .h) (at-enum-told4 .enum-told4 .given .1))))
 
 returns : tie.Need-returns
-returns c = absurd (false≢true (sym (c .before .before .before .before .before .before .pre .1 .1) ∙ ap isCaKind (c .enum-told .given .1)))
+returns c =
+    let start = c .before .before .before .before .before .before in
+    absurd (false≢true (sym (start .pre .1 .1) ∙ ap isCaKind (c .enum-told .given .1)))
 
 returns-2 : tie.Need-returns-2
 returns-2 c =
-    let a = c .before .before .before .before .before .before .before .before .before .before .before .before .before .before .before .before .before .before .args in
-    let t = c .before .before .before .before .before .before .take-request in
-    let l = c .before .before .before .before .before .before .before .before .before .before .live-of in
-    acts-request (a .p .now) (a .h) (a .k) (a .time) (settingsOf (a .s)) (a .slots .now) (a .memory .now) (t .last .1 .1 .0) (a .out .now) (t .last .1 .0) (t .last .1 .1 .1 .1 .1 .1 .1 .0) (t .result) (l .result) (c .before .before .before .before .before .before .before .before .before .before .before .before .enum-told2 .given .1) (l .ensures (a .memory .now)) (t .ensures)
+    let at-take-request = c .before .before .before .before .before .before in
+    let at-live-of = at-take-request .before .before .before .before in
+    let at-enum-told2 = at-live-of .before .before in
+    let start = at-enum-told2 .before .before .before .before .before .before in
+    let a = start .args in
+    let t = at-take-request .take-request in
+    let l = at-live-of .live-of in
+    acts-request (a .p .now) (a .h) (a .k) (a .time) (settingsOf (a .s)) (a .slots .now) (a .memory .now) (t .last .1 .1 .0) (a .out .now) (t .last .1 .0)
+    (t .last .1 .1 .1 .1 .1 .1 .1 .0) (t .result) (l .result) (at-enum-told2 .enum-told2 .given .1) (l .ensures (a .memory .now)) (t .ensures)
 
 returns-3 : tie.Need-returns-3
 returns-3 c =
-    let a = c .before .before .before .before .before .before .before .before .before .before .before .args in
-    let r = c .before .before .reply-all in
-    acts-reply (a .p .now) (a .h) (a .k) (a .time) (settingsOf (a .s)) (a .slots .now) (a .memory .now) (r .last .0) (a .out .now) (c .before .before .before .before .before .enum-told3 .given .1) (r .ensures)
+    let at-reply-all = c .before .before in
+    let at-enum-told3 = at-reply-all .before .before .before in
+    let start = at-enum-told3 .before .before .before .before .before .before in
+    let a = start .args in
+    let r = at-reply-all .reply-all in
+    acts-reply (a .p .now) (a .h) (a .k) (a .time) (settingsOf (a .s)) (a .slots .now) (a .memory .now) (r .last .0) (a .out .now)
+    (at-enum-told3 .enum-told3 .given .1) (r .ensures)
 
 returns-4 : tie.Need-returns-4
 returns-4 c =
-    let a = c .before .before .before .before .before .before .before .before .before .before .before .before .before .before .args in
-    let t = c .before .before .before .before .take-csus in
-    acts-csus (a .p .now) (a .h) (a .k) (a .time) (settingsOf (a .s)) (a .slots .now) (a .memory .now) (t .last .1 .1 .0) (a .out .now) (t .last .1 .1 .1 .1 .1 .1 .0) (t .result) (c .before .before .before .before .before .before .before .before .enum-told4 .given .1) (t .ensures)
+    let at-take-csus = c .before .before .before .before in
+    let at-enum-told4 = at-take-csus .before .before .before .before in
+    let start = at-enum-told4 .before .before .before .before .before .before in
+    let a = start .args in
+    let t = at-take-csus .take-csus in
+    acts-csus (a .p .now) (a .h) (a .k) (a .time) (settingsOf (a .s)) (a .slots .now) (a .memory .now) (t .last .1 .1 .0) (a .out .now)
+    (t .last .1 .1 .1 .1 .1 .1 .0) (t .result) (at-enum-told4 .enum-told4 .given .1) (t .ensures)
 
 returns-5 : tie.Need-returns-5
 returns-5 c =
-    let a = c .before .before .before .before .before .before .before .before .before .before .before .before .before .before .before .args in
-    let t = c .before .before .before .before .take-hello in
-    acts-hello (a .p .now) (a .h) (a .k) (a .time) (settingsOf (a .s)) (a .slots .now) (a .memory .now) (t .last .1 .0) (a .out .now) (t .last .0) (c .before .before .before .before .before .before .before .before .before .enum-told5 .given .1) (t .ensures)
+    let at-take-hello = c .before .before .before .before in
+    let at-enum-told5 = at-take-hello .before .before .before .before .before in
+    let start = at-enum-told5 .before .before .before .before .before .before in
+    let a = start .args in
+    let t = at-take-hello .take-hello in
+    acts-hello (a .p .now) (a .h) (a .k) (a .time) (settingsOf (a .s)) (a .slots .now) (a .memory .now) (t .last .1 .0) (a .out .now) (t .last .0)
+    (at-enum-told5 .enum-told5 .given .1) (t .ensures)
 
 pub act-spec : {M : Type 1} → statement M
 act-spec =

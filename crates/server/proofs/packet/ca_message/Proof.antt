@@ -18,40 +18,79 @@ id-length : (c : tie.Start) → length (c .args .s .settings .id) ≡ 4
 id-length c = search needs
 
 slice-aggregate-rule-for : tie.Need-slice-aggregate-rule-for
-slice-aggregate-rule-for c = sym (id-length (c .before .before .before .before .before .before .before .before .before .before .before))
+slice-aggregate-rule-for c =
+    let at-id-length = c .before .before .before .before .before .before .before .before .before .before .before in
+    sym (id-length at-id-length)
 
 alignment-at-requires : tie.Need-alignment-at-requires
-alignment-at-requires c κs = (c .before .before .before .before .before .before .before .before .before .before .before .before .before .before .before .before .before .pre .0 .0, c .before .before .before .before .before .before .before .before .before .before .before .before .before .before .before .before .before .pre .1 .0 .0)
+alignment-at-requires c κs =
+    let start = c .before .before .before .before .before .before .before .before .before .before .before .before .before .before .before .before .before in
+    (start .pre .0 .0, start .pre .1 .0 .0)
 
 take-ca-requires : tie.Need-take-ca-requires
 take-ca-requires c κs =
-    let a = c .before .before .before .before .before .before .before .before .before .before .before .before .before .before .before .before .before .before .before .before .before .args in
-    let q = c .before .before .before .before .before .before .before .before .before .before .before .before .before .before .before .before .before .before .before .before .before .pre in
-    ((q .0, q .1 .0), ((q .1 .1 .0 .walks (ap isHello (body-is (a .p .now) (a .h) (is-ca (a .h .kind) (q .1 .1 .1)))), q .1 .1 .1), (c .before .before .before .before .before .before .before .before .before .before .before .before .before .before .before .slot-at .ensures, c .before .before .before .before .before .before .before .before .before .rule-for .ensures)))
+    let at-rule-for = c .before .before .before .before .before .before .before .before .before in
+    let at-slot-at = at-rule-for .before .before .before .before .before .before in
+    let start = at-slot-at .before .before .before .before .before .before in
+    let a = start .args in
+    let q = start .pre in (
+      (q .0, q .1 .0),
+      (
+        (q .1 .1 .0 .walks (ap isHello (body-is (a .p .now) (a .h) (is-ca (a .h .kind) (q .1 .1 .1)))), q .1 .1 .1),
+        (at-slot-at .slot-at .ensures, at-rule-for .rule-for .ensures),
+      ),
+    )
 
 taken-requires : tie.Need-taken-requires
-taken-requires c κs = (c .before .before .before .before .before .before .before .before .take-ca .kept .1 .0 ∙ c .before .before .before .before .before .before .before .before .before .before .before .before .before .before .before .before .before .before .before .before .before .before .before .before .before .before .before .before .before .before .pre .0 .0, (c .before .before .before .before .before .before .before .before .take-ca .kept .1 .1 .0 ∙ c .before .before .before .before .before .before .before .before .before .before .before .before .before .before .before .before .before .before .before .before .before .before .before .before .before .before .before .before .before .before .pre .0 .1, c .before .before .before .before .before .before .before .before .before .before .before .before .before .before .before .before .before .before .before .before .before .before .before .before .before .before .before .before .before .before .pre .1 .0 .0))
+taken-requires c κs =
+    let at-take-ca = c .before .before .before .before .before .before .before .before in
+    let start = at-take-ca .before .before .before .before .before .before .before .before .before .before .before .before .before .before .before .before
+    .before .before .before .before .before .before in
+    (at-take-ca .take-ca .kept .1 .0 ∙ start .pre .0 .0, (at-take-ca .take-ca .kept .1 .1 .0 ∙ start .pre .0 .1, start .pre .1 .0 .0))
 
 returns : tie.Need-returns
 returns c =
-    let a = c .before .before .before .before .before .before .before .before .before .before .before .before .before .before .before .before .before .before .args in
-    let q = c .before .before .before .before .before .before .before .before .before .before .before .before .before .before .before .before .before .before .pre in
-    let x = c .before .before .before .before .before .before .before .before .before .before .before .before .slot-at in
-    let u = ca-unusable (a .p .now) (a .h) (settingsOf (a .s .settings)) (a .slots .now) (a .memory .now) (a .k) (x .result) (c .before .before .before .before .before .is-refuse .result) (ruleOf (c .before .before .before .before .before .before .rule-for .result)) (q .1 .1 .1) (x .ensures) (c .before .before .before .before .before .before .rule-for .ensures) (c .before .before .before .before .before .is-refuse .ensures) in
-    let code = c .before .before .before .before .message-code .ensures (slotNow (a .slots .now) (a .k) (a .memory .now)) (ap (λ (z : Slot). z .peer) (sym (x .ensures))) u in
-    message-refused (a .p .now) (a .k) (a .time) (a .s) (a .slots .now) (a .memory .now) (q .1 .0 .0) (messageOf (a .p .now) (a .h)) (c .before .before .before .before .message-code .result) code (c .before .before .f .given .0 .0) (c .refuse .result) (a .out .now) (c .before .before .f .given .1) (c .refuse .ensures)
+    let at-test = c .before .before in
+    let at-message-code = at-test .before .before in
+    let at-is-refuse = at-message-code .before in
+    let at-rule-for = at-is-refuse .before in
+    let at-slot-at = at-rule-for .before .before .before .before .before .before in
+    let start = at-slot-at .before .before .before .before .before .before in
+    let a = start .args in
+    let q = start .pre in
+    let x = at-slot-at .slot-at in
+    let u = ca-unusable (a .p .now) (a .h) (settingsOf (a .s .settings)) (a .slots .now) (a .memory .now) (a .k) (x .result)
+    (at-is-refuse .is-refuse .result) (ruleOf (at-rule-for .rule-for .result)) (q .1 .1 .1) (x .ensures) (at-rule-for .rule-for .ensures)
+    (at-is-refuse .is-refuse .ensures) in
+    let code = at-message-code .message-code .ensures (slotNow (a .slots .now) (a .k) (a .memory .now)) (ap (λ (z : Slot). z .peer) (sym (x .ensures))) u in
+    message-refused (a .p .now) (a .k) (a .time) (a .s) (a .slots .now) (a .memory .now) (q .1 .0 .0) (messageOf (a .p .now) (a .h))
+    (at-message-code .message-code .result) code (at-test .f .given .0 .0) (c .refuse .result) (a .out .now) (at-test .f .given .1) (c .refuse .ensures)
 
 returns-2 : tie.Need-returns-2
 returns-2 c =
-    let a = c .before .before .before .before .before .before .before .before .before .before .before .before .before .before .before .before .before .before .before .before .before .before .before .before .before .before .before .before .before .before .before .before .before .args in
-    let q = c .before .before .before .before .before .before .before .before .before .before .before .before .before .before .before .before .before .before .before .before .before .before .before .before .before .before .before .before .before .before .before .before .before .pre in
-    let x = c .before .before .before .before .before .before .before .before .before .before .before .before .before .before .before .before .before .before .before .before .before .before .before .before .before .before .before .slot-at in
-    let t = c .before .before .before .before .before .before .before .before .before .before .before .take-ca in
-    let d = c .before .before .taken in
-    let from = c .before .before .before .before .before .before .before .before .before .before .before .before .before .before .before .alignment-at in
-    let u = ca-unusable (a .p .now) (a .h) (settingsOf (a .s .settings)) (a .slots .now) (a .memory .now) (a .k) (x .result) (c .before .before .before .before .before .before .before .before .before .before .before .before .before .before .before .before .before .before .before .before .is-refuse .result) (ruleOf (c .before .before .before .before .before .before .before .before .before .before .before .before .before .before .before .before .before .before .before .before .before .rule-for .result)) (q .1 .1 .1) (x .ensures) (c .before .before .before .before .before .before .before .before .before .before .before .before .before .before .before .before .before .before .before .before .before .rule-for .ensures) (c .before .before .before .before .before .before .before .before .before .before .before .before .before .before .before .before .before .before .before .before .is-refuse .ensures) in
-    let code = c .before .before .before .before .before .before .before .before .before .before .before .before .before .before .before .before .before .before .before .message-code .ensures (slotNow (a .slots .now) (a .k) (a .memory .now)) (ap (λ (z : Slot). z .peer) (sym (x .ensures))) u in
-    message-taken (a .p .now) (a .k) (a .time) (a .s) (a .slots .now) (a .memory .now) (q .1 .0 .0) (messageOf (a .p .now) (a .h)) (c .before .before .before .before .before .before .before .before .before .before .before .before .before .before .before .before .before .before .before .message-code .result) code (t .last .1 .0) (t .last .1 .1 .0) (d .last .1 .1 .0) (a .out .now) (t .last .1 .1 .1 .1 .1 .1 .1 .1 .1 .0) false (from .result) (t .result) (d .result) (c .before .before .before .before .before .before .before .before .before .before .before .before .before .before .before .before .before .enum-told .given .1) (sym (ap bodyChanges (body-is (a .p .now) (a .h) (is-ca (a .h .kind) (q .1 .1 .1))))) (from .ensures) (t .ensures) (d .ensures .0) (d .ensures .1)
+    let at-taken = c .before .before in
+    let at-take-ca = at-taken .before .before .before .before .before .before .before .before .before in
+    let at-alignment-at = at-take-ca .before .before .before .before in
+    let at-test = at-alignment-at .before .before in
+    let at-message-code = at-test .before .before in
+    let at-is-refuse = at-message-code .before in
+    let at-rule-for = at-is-refuse .before in
+    let at-slot-at = at-rule-for .before .before .before .before .before .before in
+    let start = at-slot-at .before .before .before .before .before .before in
+    let a = start .args in
+    let q = start .pre in
+    let x = at-slot-at .slot-at in
+    let t = at-take-ca .take-ca in
+    let d = at-taken .taken in
+    let from = at-alignment-at .alignment-at in
+    let u = ca-unusable (a .p .now) (a .h) (settingsOf (a .s .settings)) (a .slots .now) (a .memory .now) (a .k) (x .result)
+    (at-is-refuse .is-refuse .result) (ruleOf (at-rule-for .rule-for .result)) (q .1 .1 .1) (x .ensures) (at-rule-for .rule-for .ensures)
+    (at-is-refuse .is-refuse .ensures) in
+    let code = at-message-code .message-code .ensures (slotNow (a .slots .now) (a .k) (a .memory .now)) (ap (λ (z : Slot). z .peer) (sym (x .ensures))) u in
+    message-taken (a .p .now) (a .k) (a .time) (a .s) (a .slots .now) (a .memory .now) (q .1 .0 .0) (messageOf (a .p .now) (a .h))
+    (at-message-code .message-code .result) code (t .last .1 .0) (t .last .1 .1 .0) (d .last .1 .1 .0) (a .out .now) (t .last .1 .1 .1 .1 .1 .1 .1 .1 .1 .0)
+    false (from .result) (t .result) (d .result) (at-test .enum-told .given .1)
+    (sym (ap bodyChanges (body-is (a .p .now) (a .h) (is-ca (a .h .kind) (q .1 .1 .1))))) (from .ensures) (t .ensures) (d .ensures .0) (d .ensures .1)
 
 pub ca-message-spec : {M : Type 1} → statement M
 ca-message-spec =

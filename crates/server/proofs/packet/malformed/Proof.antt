@@ -11,23 +11,43 @@ use Rattle.server.proofs.packet.malformed.Statement.{statement}
 use Rattle.server.proofs.packet.malformed.Tie as tie
 
 returns : tie.Need-returns
-returns c = λ at out.
-    let a = c .before .before .before .before .before .before .args in
-    read-refused (reading.malformed at) (a .p .now) (a .k) (a .time) (a .s) (a .slots .now) (a .memory .now) (ap (λ (n : ℕ). eqb n 5) (sym (c .before .before .octet .ensures)) ∙ ne-eqb (c .before .before .octet .result) 5 (c .before .if1 .taken)) failure.Malformed (c .refuse .result) out refl (c .refuse .ensures)
+returns c =
+    let at-if1 = c .before in
+    let at-octet = at-if1 .before in
+    let start = at-octet .before .before .before .before in
+    λ at out.
+    let a = start .args in
+    read-refused (reading.malformed at) (a .p .now) (a .k) (a .time) (a .s) (a .slots .now) (a .memory .now)
+    (ap (λ (n : ℕ). eqb n 5) (sym (at-octet .octet .ensures)) ∙ ne-eqb (at-octet .octet .result) 5 (at-if1 .if1 .taken)) failure.Malformed
+    (c .refuse .result) out refl (c .refuse .ensures)
 
 move-to-requires : tie.Need-move-to-requires
-move-to-requires c κs = (c .before .before .before .before .before .before .before .before .before .pre .0 .0, (c .before .before .before .before .before .before .before .before .before .pre .0 .1, c .before .before .before .before .before .before .before .before .before .pre .1))
+move-to-requires c κs =
+    let start = c .before .before .before .before .before .before .before .before .before in
+    (start .pre .0 .0, (start .pre .0 .1, start .pre .1))
 
 close-requires : tie.Need-close-requires
-close-requires c κs = (c .before .before .before .before .before .before .move-to .kept .0 ∙ c .before .before .before .before .before .before .before .before .before .before .before .before .before .before .before .before .pre .0 .0, (c .before .before .before .before .before .before .move-to .kept .1 .0 ∙ c .before .before .before .before .before .before .before .before .before .before .before .before .before .before .before .before .pre .0 .1, c .before .before .before .before .before .before .before .before .before .before .before .before .before .before .before .before .pre .1))
+close-requires c κs =
+    let at-move-to = c .before .before .before .before .before .before in
+    let start = at-move-to .before .before .before .before .before .before .before .before .before .before in
+    (at-move-to .move-to .kept .0 ∙ start .pre .0 .0, (at-move-to .move-to .kept .1 .0 ∙ start .pre .0 .1, start .pre .1))
 
 returns-2 : tie.Need-returns-2
-returns-2 c = λ at out.
-    let a = c .before .before .before .before .before .before .before .before .before .before .before .before .before .before .before .before .before .before .before .before .args in
-    let m = c .before .before .before .before .before .before .before .before .before .before .move-to in
-    let d = c .before .before .before .close in
-    let from = c .before .before .before .before .before .before .before .before .before .before .before .before .before .alignment-at in
-    read-malformed (a .p .now) (a .k) (a .time) (a .s) (a .slots .now) (a .memory .now) (c .before .before .before .before .before .before .before .before .before .before .before .before .before .before .before .before .before .before .before .before .pre .1) at (m .last .0) (m .last .1 .0) (d .last .1 .1 .0) out (from .result) (d .result) (c .refuse2 .result) (sym (c .before .before .before .before .before .before .before .before .before .before .before .before .before .before .before .before .octet .ensures) ∙ c .before .before .before .before .before .before .before .before .before .before .before .before .before .before .before .if1 .left) (from .ensures) (m .ensures) (d .ensures) (c .refuse2 .ensures)
+returns-2 c =
+    let at-close = c .before .before .before in
+    let at-move-to = at-close .before .before .before .before .before .before .before in
+    let at-alignment-at = at-move-to .before .before .before in
+    let at-if1 = at-alignment-at .before .before in
+    let at-octet = at-if1 .before in
+    let start = at-octet .before .before .before .before in
+    λ at out.
+    let a = start .args in
+    let m = at-move-to .move-to in
+    let d = at-close .close in
+    let from = at-alignment-at .alignment-at in
+    read-malformed (a .p .now) (a .k) (a .time) (a .s) (a .slots .now) (a .memory .now) (start .pre .1) at (m .last .0) (m .last .1 .0) (d .last .1 .1 .0)
+    out (from .result) (d .result) (c .refuse2 .result) (sym (at-octet .octet .ensures) ∙ at-if1 .if1 .left) (from .ensures) (m .ensures) (d .ensures)
+    (c .refuse2 .ensures)
 
 pub malformed-spec : {M : Type 1} → statement M
 malformed-spec =

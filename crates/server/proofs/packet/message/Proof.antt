@@ -5,16 +5,28 @@ use Rattle.server.proofs.packet.message.Statement.{statement}
 use Rattle.server.proofs.packet.message.Tie as tie
 
 ca-message-requires : tie.Need-ca-message-requires
-ca-message-requires c κs = (c .before .before .before .before .before .before .before .before .before .pre .0, (c .before .before .before .before .before .before .before .before .before .pre .1 .0, (c .before .before .before .before .before .before .before .before .before .pre .1 .1, sym (c .before .before .before .before .is-ca .ensures) ∙ c .before .before .before .if1 .taken)))
+ca-message-requires c κs =
+    let at-if1 = c .before .before .before in
+    let at-is-ca = at-if1 .before in
+    let start = at-is-ca .before .before .before .before .before in
+    (start .pre .0, (start .pre .1 .0, (start .pre .1 .1, sym (at-is-ca .is-ca .ensures) ∙ at-if1 .if1 .taken)))
 
 returns : tie.Need-returns
-returns c = c .before .before .before .before .before .before .ca-message .ensures
+returns c =
+    let at-ca-message = c .before .before .before .before .before .before in
+    at-ca-message .ca-message .ensures
 
 other-message-requires : tie.Need-other-message-requires
-other-message-requires c κs = (c .before .before .before .before .before .before .before .before .before .pre .0, (c .before .before .before .before .before .before .before .before .before .pre .1 .0, (c .before .before .before .before .before .before .before .before .before .pre .1 .1, sym (c .before .before .before .before .is-ca .ensures) ∙ c .before .before .before .if1 .left)))
+other-message-requires c κs =
+    let at-if1 = c .before .before .before in
+    let at-is-ca = at-if1 .before in
+    let start = at-is-ca .before .before .before .before .before in
+    (start .pre .0, (start .pre .1 .0, (start .pre .1 .1, sym (at-is-ca .is-ca .ensures) ∙ at-if1 .if1 .left)))
 
 returns-2 : tie.Need-returns-2
-returns-2 c = c .before .before .before .before .before .before .other-message .ensures
+returns-2 c =
+    let at-other-message = c .before .before .before .before .before .before in
+    at-other-message .other-message .ensures
 
 pub message-spec : {M : Type 1} → statement M
 message-spec =

@@ -5,11 +5,17 @@ use Rattle.server.proofs.peers.add_taken.Tie as tie
 
 returns : tie.Need-returns
 returns c =
-    let a = c .before .before .before .before .before .before .before .before .before .before .before .before .before .args in
-    let x = c .before .before .before .before .peer-slot in
-    let id = c .before .before .before .before .before .array4 in
-    let m = c .before .before .before .before .before .before .before .before .empty-lists in
-    adds (a .s) (a .slots .now) (c .before .before .put-slot .last .0) (a .k) (a .id .now) (id .result) (x .result) (a .memory .now) (m .last .0) (c .before .before .before .before .before .before .before .before .before .before .before .before .before .pre .1 .0) (id .ensures) (x .ensures) (c .before .before .put-slot .ensures) (m .ensures)
+    let at-put-slot = c .before .before in
+    let at-peer-slot = at-put-slot .before .before in
+    let at-array4 = at-peer-slot .before in
+    let at-empty-lists = at-array4 .before .before .before in
+    let start = at-empty-lists .before .before .before .before .before in
+    let a = start .args in
+    let x = at-peer-slot .peer-slot in
+    let id = at-array4 .array4 in
+    let m = at-empty-lists .empty-lists in
+    adds (a .s) (a .slots .now) (at-put-slot .put-slot .last .0) (a .k) (a .id .now) (id .result) (x .result) (a .memory .now) (m .last .0)
+    (start .pre .1 .0) (id .ensures) (x .ensures) (at-put-slot .put-slot .ensures) (m .ensures)
 
 pub add-taken-spec : {M : Type 1} → statement M
 add-taken-spec =

@@ -18,15 +18,26 @@ loop-holds c = (search needs, λ m. refl)
 
 returns : tie.Need-returns Inv-loop μ-loop
 returns c =
-    let a = c .before .before .before .before .before .before .args in
-    let l = c .before .before .before .loop in
-    peer-here (a .slots .now) (a .id .now) (l .k) (c .before .before .loop-test .taken) (l .inv .1) (sym (c .before .is-peer .ensures) ∙ c .if1 .taken)
+    let at-is-peer = c .before in
+    let at-loop-test = at-is-peer .before in
+    let at-loop = at-loop-test .before in
+    let start = at-loop .before .before .before in
+    let a = start .args in
+    let l = at-loop .loop in
+    peer-here (a .slots .now) (a .id .now) (l .k) (at-loop-test .loop-test .taken) (l .inv .1) (sym (at-is-peer .is-peer .ensures) ∙ c .if1 .taken)
 
 loop-again : tie.Need-loop-again Inv-loop μ-loop
 loop-again c =
-    let a = c .before .before .before .before .before .before .args in
-    let l = c .before .before .before .loop in
-    (search needs, peer-later (a .slots .now) (a .id .now) (l .k) (c .before .before .loop-test .taken) (l .inv .1) (sym (c .before .is-peer .ensures) ∙ c .if1 .left))
+    let at-is-peer = c .before in
+    let at-loop-test = at-is-peer .before in
+    let at-loop = at-loop-test .before in
+    let start = at-loop .before .before .before in
+    let a = start .args in
+    let l = at-loop .loop in (
+      search needs,
+      peer-later (a .slots .now) (a .id .now) (l .k) (at-loop-test .loop-test .taken) (l .inv .1)
+          (sym (at-is-peer .is-peer .ensures) ∙ c .if1 .left),
+    )
 
 returns-2 : tie.Need-returns-2 Inv-loop μ-loop
 returns-2 c =

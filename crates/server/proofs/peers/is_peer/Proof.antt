@@ -8,7 +8,12 @@ returns : tie.Need-returns
 returns c = rw (sym (c .before .used-at .ensures) ∙ not-true (c .before .used-at .result) (c .if1 .taken))
 
 returns-2 : tie.Need-returns-2
-returns-2 c = rw (sym (c .before .before .before .before .used-at .ensures) ∙ not-false (c .before .before .before .before .used-at .result) (c .before .before .before .if1 .left), ← (c .before .before .peer-at .ensures)) (c .same .ensures)
+returns-2 c = rw (
+  sym (c .before .before .before .before .used-at .ensures)
+      ∙ not-false (c .before .before .before .before .used-at .result) (c .before .before .before .if1 .left),
+  ← (c .before .before .peer-at .ensures),
+)
+    (c .same .ensures)
 
 pub is-peer-spec : {M : Type 1} → statement M
 is-peer-spec =

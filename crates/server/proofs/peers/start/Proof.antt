@@ -34,17 +34,20 @@ returns-2 c =
     let k = c .before .before .before .before .before in
     let a = k .before .before .before .before .before .args in
     starts-not (a .settings) (record { settings = a .settings; time = 0 }) (c .refuse2 .result) (a .slots .now) (a .memory .now) (typed k)
-    (no-factor (a .settings) (own-length (k .before .before .before .before .before)) (c .before .before .before .if1 .left) (c .before .if2 .taken)) (c .refuse2 .ensures)
+    (no-factor (a .settings) (own-length (k .before .before .before .before .before)) (c .before .before .before .if1 .left) (c .before .if2 .taken))
+    (c .refuse2 .ensures)
 
 returns-3 : tie.Need-returns-3
 returns-3 c =
-    let after-clear = c .before .before .before .before .before .before .before in
+    let at-fresh = c .before .before .before in
+    let after-clear = at-fresh .before .before .before .before in
     let k = after-clear .before .before .before .before .before .before in
     let a = k .before .before .before .before .before .args in
     let t = after-clear .clear in
-    let m = c .before .before .before .fresh in
+    let m = at-fresh .fresh in
     starts-so (a .settings) (record { settings = a .settings; time = 0 }) (c .take .result) (a .slots .now) (t .last .0) (a .memory .now) (m .last .0) (typed k)
-    (both-set (a .settings) (own-length (k .before .before .before .before .before)) (after-clear .before .before .before .before .if1 .left) (after-clear .before .before .if2 .left))
+    (both-set (a .settings) (own-length (k .before .before .before .before .before)) (after-clear .before .before .before .before .if1 .left)
+    (after-clear .before .before .if2 .left))
     (fresh-server (a .settings) (t .last .0) (m .last .0) (t .ensures) (m .ensures)) (c .take .ensures)
 
 pub start-spec : {M : Type 1} → statement M

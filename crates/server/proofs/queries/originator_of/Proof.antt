@@ -16,13 +16,15 @@ returns : tie.Need-returns
 returns c =
     let at = c .before .before .before in
     let a = at .before .args in
-    c .originator-of .ensures ∙ ap (λ (r : Row). entryShown r .originator) (row-used (a .memory .now) (a .row) (at .is-used .result) (at .is-used .ensures) (c .before .before .if1 .taken))
+    c .originator-of .ensures ∙ ap (λ (r : Row). entryShown r .originator)
+    (row-used (a .memory .now) (a .row) (at .is-used .result) (at .is-used .ensures) (c .before .before .if1 .taken))
 
 returns-2 : tie.Need-returns-2
 returns-2 c =
     let at = c .before .before .before in
     let a = at .before .args in
-    c .first .ensures ∙ ap (λ (r : Row). entryShown r .originator) (row-free (a .memory .now) (a .row) (at .is-used .result) (at .is-used .ensures) (c .before .before .if1 .left))
+    c .first .ensures ∙ ap (λ (r : Row). entryShown r .originator) (row-free (a .memory .now) (a .row) (at .is-used .result) (at .is-used .ensures)
+    (c .before .before .if1 .left))
 
 pub originator-of-spec : {M : Type 1} → statement M
 originator-of-spec =

@@ -16,13 +16,15 @@ returns : tie.Need-returns
 returns c =
     let at = c .before .before .before in
     let a = at .before .args in
-    c .payload-of .ensures .0 ∙ ap (λ (r : Row). valueShown r .payload) (row-used (a .memory .now) (a .row) (at .is-used .result) (at .is-used .ensures) (c .before .before .if1 .taken))
+    c .payload-of .ensures .0 ∙ ap (λ (r : Row). valueShown r .payload) (row-used (a .memory .now) (a .row) (at .is-used .result) (at .is-used .ensures)
+    (c .before .before .if1 .taken))
 
 returns-2 : tie.Need-returns-2
 returns-2 c =
     let at = c .before .before .before in
     let a = at .before .args in
-    c .first .ensures ∙ ap (λ (r : Row). valueShown r .payload) (row-free (a .memory .now) (a .row) (at .is-used .result) (at .is-used .ensures) (c .before .before .if1 .left))
+    c .first .ensures ∙ ap (λ (r : Row). valueShown r .payload) (row-free (a .memory .now) (a .row) (at .is-used .result) (at .is-used .ensures)
+    (c .before .before .if1 .left))
 
 pub payload-of-spec : {M : Type 1} → statement M
 payload-of-spec =

@@ -16,7 +16,8 @@ returns : tie.Need-returns
 returns c =
     let at = c .before .before .before in
     let a = at .before .args in
-    c .remaining-of .ensures ∙ ap (λ (r : Row). valueShown r .remaining) (row-used (a .memory .now) (a .row) (at .is-used .result) (at .is-used .ensures) (c .before .before .if1 .taken))
+    c .remaining-of .ensures ∙ ap (λ (r : Row). valueShown r .remaining) (row-used (a .memory .now) (a .row) (at .is-used .result) (at .is-used .ensures)
+    (c .before .before .if1 .taken))
 
 returns-2 : tie.Need-returns-2
 returns-2 c =

@@ -9,7 +9,8 @@ returns : tie.Need-returns
 returns c = let a = c .before .before .args in waits-row (a .memory .now) (a .row) (a .slot) (c .if1 .taken)
 
 returns-2 : tie.Need-returns-2
-returns-2 c = let a = c .before .before .before .args in waits-slot (a .memory .now) (a .row) (a .slot) (c .before .if1 .left) (c .if2 .taken) (omega (arith, c .before .before .shared-slice-known .given (markPlace (a .row))))
+returns-2 c = let a = c .before .before .before .args in waits-slot (a .memory .now) (a .row) (a .slot) (c .before .if1 .left) (c .if2 .taken)
+    (omega (arith, c .before .before .shared-slice-known .given (markPlace (a .row))))
 
 pub waits-in-spec : {M : Type 1} → statement M
 waits-in-spec = tie.close (tie.spec returns returns-2 (λ c κs. search needs) (λ c. search needs))

@@ -13,8 +13,10 @@ returns-2 c = rw (c .before .enum-told2 .given .1) (c .negotiate-rule .ensures)
 
 returns-3 : tie.Need-returns-3
 returns-3 c =
-    let x = c .before .before .before .before .before .before .args in
-    rule-is (x .id .now) (caIn (x .h) (x .sender .now) (x .empty)) (x .kept) (x .l) (c .before .before .a .given .1)
+    let at-a = c .before .before in
+    let start = at-a .before .before .before .before in
+    let x = start .args in
+    rule-is (x .id .now) (caIn (x .h) (x .sender .now) (x .empty)) (x .kept) (x .l) (at-a .a .given .1)
     (c .summarize-rule .ensures (x .id .now) (x .sender .now) (x .empty) (x .kept))
 
 returns-4 : tie.Need-returns-4

@@ -7,10 +7,22 @@ returns : tie.Need-returns
 returns c = rw (sym (c .before .makes-slave .ensures) ∙ c .if1 .taken)
 
 returns-2 : tie.Need-returns-2
-returns-2 c = rw (sym (c .before .before .before .before .before .makes-slave .ensures) ∙ c .before .before .before .before .if1 .left, sym (c .before .before .before .greater .ensures) ∙ c .before .before .if2 .taken, sym (c .before .from-slave .ensures) ∙ c .if3 .taken)
+returns-2 c = rw (
+  sym (c .before .before .before .before .before .makes-slave .ensures)
+      ∙ c .before .before .before .before .if1 .left,
+  sym (c .before .before .before .greater .ensures)
+      ∙ c .before .before .if2 .taken,
+  sym (c .before .from-slave .ensures) ∙ c .if3 .taken,
+)
 
 returns-3 : tie.Need-returns-3
-returns-3 c = rw (sym (c .before .before .before .before .before .makes-slave .ensures) ∙ c .before .before .before .before .if1 .left, sym (c .before .before .before .greater .ensures) ∙ c .before .before .if2 .taken, sym (c .before .from-slave .ensures) ∙ c .if3 .left)
+returns-3 c = rw (
+  sym (c .before .before .before .before .before .makes-slave .ensures)
+      ∙ c .before .before .before .before .if1 .left,
+  sym (c .before .before .before .greater .ensures)
+      ∙ c .before .before .if2 .taken,
+  sym (c .before .from-slave .ensures) ∙ c .if3 .left,
+)
 
 returns-4 : tie.Need-returns-4
 returns-4 c = rw (sym (c .before .before .before .makes-slave .ensures) ∙ c .before .before .if1 .left, sym (c .before .greater .ensures) ∙ c .if2 .left)

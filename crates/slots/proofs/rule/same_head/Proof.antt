@@ -9,22 +9,35 @@ returns : tie.Need-returns
 returns c = rw (ne-eqb _ _ (c .if1 .taken))
 
 returns-2 : tie.Need-returns-2
-returns-2 c = rw (eq-eqb _ _ (c .before .before .before .before .if1 .left), sym (c .before .same-bit .ensures) ∙ not-true (c .before .same-bit .result) (c .if2 .taken))
+returns-2 c = rw (
+  eq-eqb _ _ (c .before .before .before .before .if1 .left),
+  sym (c .before .same-bit .ensures)
+      ∙ not-true (c .before .same-bit .result) (c .if2 .taken),
+)
 
 returns-3 : tie.Need-returns-3
 returns-3 c =
+    let at-same-bit2 = c .before in
+    let at-if2 = at-same-bit2 .before in
+    let at-same-bit = at-if2 .before in
+    let at-if1 = at-same-bit .before .before .before in
     rw (
-      eq-eqb _ _ (c .before .before .before .before .before .before .if1 .left),
-      sym (c .before .before .before .same-bit .ensures) ∙ not-false (c .before .before .before .same-bit .result) (c .before .before .if2 .left),
-      sym (c .before .same-bit2 .ensures) ∙ not-true (c .before .same-bit2 .result) (c .if3 .taken),
+      eq-eqb _ _ (at-if1 .if1 .left),
+      sym (at-same-bit .same-bit .ensures) ∙ not-false (at-same-bit .same-bit .result) (at-if2 .if2 .left),
+      sym (at-same-bit2 .same-bit2 .ensures) ∙ not-true (at-same-bit2 .same-bit2 .result) (c .if3 .taken),
     )
 
 returns-4 : tie.Need-returns-4
 returns-4 c =
+    let at-if3 = c .before in
+    let at-same-bit2 = at-if3 .before in
+    let at-if2 = at-same-bit2 .before in
+    let at-same-bit = at-if2 .before in
+    let at-if1 = at-same-bit .before .before .before in
     rw (
-      eq-eqb _ _ (c .before .before .before .before .before .before .before .if1 .left),
-      sym (c .before .before .before .before .same-bit .ensures) ∙ not-false (c .before .before .before .before .same-bit .result) (c .before .before .before .if2 .left),
-      sym (c .before .before .same-bit2 .ensures) ∙ not-false (c .before .before .same-bit2 .result) (c .before .if3 .left),
+      eq-eqb _ _ (at-if1 .if1 .left),
+      sym (at-same-bit .same-bit .ensures) ∙ not-false (at-same-bit .same-bit .result) (at-if2 .if2 .left),
+      sym (at-same-bit2 .same-bit2 .ensures) ∙ not-false (at-same-bit2 .same-bit2 .result) (at-if3 .if3 .left),
       c .same-bit3 .ensures,
     )
 

@@ -5,8 +5,11 @@ use Rattle.table.proofs.fields.put_alignment.Tie as tie
 
 returns : tie.Need-returns
 returns c =
-    let a = c .before .before .before .before .before .before .args in
-    alignment-put (a .k) (c .before .before .before .of-alignment .result) (a .t .now) _ (a .a) (c .before .before .put-word .ensures) (c .before .before .before .of-alignment .ensures)
+    let at-put-word = c .before .before in
+    let at-of-alignment = at-put-word .before in
+    let start = at-of-alignment .before .before .before in
+    let a = start .args in
+    alignment-put (a .k) (at-of-alignment .of-alignment .result) (a .t .now) _ (a .a) (at-put-word .put-word .ensures) (at-of-alignment .of-alignment .ensures)
 
 pub put-alignment-spec : {M : Type 1} → statement M
 put-alignment-spec =

@@ -6,10 +6,14 @@ use Rattle.table.proofs.fields.put_heard.Tie as tie
 
 returns : tie.Need-returns
 returns c =
-    let a = c .before .before .before .before .before .before .before .before .before .before .before .before .before .args in
-    let t = c .before .before .before .before .before .before .before .before .before .before .put-time in
-    let i = c .before .before .before .before .before .before .put-interval in
-    let f = c .before .before .put-factor in
+    let at-put-factor = c .before .before in
+    let at-put-interval = at-put-factor .before .before .before .before in
+    let at-put-time = at-put-interval .before .before .before .before in
+    let start = at-put-time .before .before .before in
+    let a = start .args in
+    let t = at-put-time .put-time in
+    let i = at-put-interval .put-interval in
+    let f = at-put-factor .put-factor in
     changes-then (a .k) (λ x. withInterval (a .interval) (withHeard (a .time) x)) (withFactor (a .factor)) (a .t .now) (i .last .0) (f .last .0)
     (changes-then (a .k) (withHeard (a .time)) (withInterval (a .interval)) (a .t .now) (t .last .0) (i .last .0) (t .ensures) (i .ensures)) (f .ensures)
 

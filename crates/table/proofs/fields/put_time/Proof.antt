@@ -5,8 +5,11 @@ use Rattle.table.proofs.fields.put_time.Tie as tie
 
 returns : tie.Need-returns
 returns c =
-    let a = c .before .before .before .before .before .before .args in
-    heard-put (a .k) (c .before .before .before .of-number .result) (a .t .now) _ (a .time) (c .before .before .put-word .ensures) (c .before .before .before .of-number .ensures)
+    let at-put-word = c .before .before in
+    let at-of-number = at-put-word .before in
+    let start = at-of-number .before .before .before in
+    let a = start .args in
+    heard-put (a .k) (at-of-number .of-number .result) (a .t .now) _ (a .time) (at-put-word .put-word .ensures) (at-of-number .of-number .ensures)
 
 pub put-time-spec : {M : Type 1} → statement M
 put-time-spec = tie.close (tie.spec (λ c κs. search needs) (λ c κs. search needs) (λ c. search needs) returns)

@@ -9,16 +9,20 @@ use Rattle.wire.proofs.check.element_check.Statement.{statement}
 use Rattle.wire.proofs.check.element_check.Tie as tie
 
 returns : tie.Need-returns
-returns c = let a = c .before .before .before .before .args in c .record-check .ensures ∙ of-record (a .k) (a .p .now) (a .at) (ap isHelloKind (c .before .enum-told .given .1))
+returns c = let a = c .before .before .before .before .args in c .record-check .ensures
+    ∙ of-record (a .k) (a .p .now) (a .at) (ap isHelloKind (c .before .enum-told .given .1))
 
 returns-2 : tie.Need-returns-2
-returns-2 c = let a = c .before .before .before .before .args in c .record-check2 .ensures ∙ of-record (a .k) (a .p .now) (a .at) (ap isHelloKind (c .before .enum-told2 .given .1))
+returns-2 c = let a = c .before .before .before .before .args in c .record-check2 .ensures
+    ∙ of-record (a .k) (a .p .now) (a .at) (ap isHelloKind (c .before .enum-told2 .given .1))
 
 returns-3 : tie.Need-returns-3
-returns-3 c = let a = c .before .before .before .before .args in c .record-check3 .ensures ∙ of-record (a .k) (a .p .now) (a .at) (ap isHelloKind (c .before .enum-told3 .given .1))
+returns-3 c = let a = c .before .before .before .before .args in c .record-check3 .ensures
+    ∙ of-record (a .k) (a .p .now) (a .at) (ap isHelloKind (c .before .enum-told3 .given .1))
 
 returns-4 : tie.Need-returns-4
-returns-4 c = let a = c .before .before .before .before .args in c .record-check4 .ensures ∙ of-record (a .k) (a .p .now) (a .at) (ap isHelloKind (c .before .enum-told4 .given .1))
+returns-4 c = let a = c .before .before .before .before .args in c .record-check4 .ensures
+    ∙ of-record (a .k) (a .p .now) (a .at) (ap isHelloKind (c .before .enum-told4 .given .1))
 
 returns-5 : tie.Need-returns-5
 unfolding elementCheck

@@ -21,16 +21,27 @@ loop-holds c = (omega arith, refl)
 
 returns : tie.Need-returns Inv-loop μ-loop
 returns c =
-    let a = c .before .before .before .before .before .before .before .args in
-    let l = c .before .before .before .before .before .loop in
-    turn-breaks (a .k) (a .p .now) (l .left) (l .at) (l .inv .1) (c .before .before .before .before .loop-test .taken) (c .before .before .before .element-check .ensures) (c .before .c .given .1)
+    let at-c = c .before in
+    let at-element-check = at-c .before .before in
+    let at-loop-test = at-element-check .before in
+    let at-loop = at-loop-test .before in
+    let start = at-loop .before .before in
+    let a = start .args in
+    let l = at-loop .loop in
+    turn-breaks (a .k) (a .p .now) (l .left) (l .at) (l .inv .1) (at-loop-test .loop-test .taken) (at-element-check .element-check .ensures) (at-c .c .given .1)
 
 loop-again : tie.Need-loop-again Inv-loop μ-loop
 loop-again c =
-    let a = c .before .before .before .before .before .before .before .args in
-    let l = c .before .before .before .before .before .loop in (
+    let at-test = c .before in
+    let at-element-check = at-test .before .before in
+    let at-loop-test = at-element-check .before in
+    let at-loop = at-loop-test .before in
+    let start = at-loop .before .before in
+    let a = start .args in
+    let l = at-loop .loop in (
       omega (arith, c .element-size .ensures .1),
-      turn (a .k) (a .p .now) (l .left) (l .at) (l .inv .1) (c .before .before .before .before .loop-test .taken) (c .before .before .before .element-check .ensures) (c .before .enum-told .given .1) (c .element-size .ensures .0),
+      turn (a .k) (a .p .now) (l .left) (l .at) (l .inv .1) (at-loop-test .loop-test .taken) (at-element-check .element-check .ensures)
+          (at-test .enum-told .given .1) (c .element-size .ensures .0),
     )
 
 returns-2 : tie.Need-returns-2 Inv-loop μ-loop

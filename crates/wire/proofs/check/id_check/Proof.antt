@@ -10,7 +10,8 @@ returns : tie.Need-returns
 returns c =
     let a = c .before .before .before .before .before .args in
     let same : a .c + 16 ≡ a .c + 12 + 4 = omega arith in
-    more (c .before .before .before .field .ensures) (one (field-in (a .p .now) same (c .before .before .octet .ensures) refl (c .before .field2 .ensures))) (c .and-then .ensures)
+    more (c .before .before .before .field .ensures) (one (field-in (a .p .now) same (c .before .before .octet .ensures) refl (c .before .field2 .ensures)))
+    (c .and-then .ensures)
 
 pub id-check-spec : {M : Type 1} → statement M
 id-check-spec =

@@ -5,11 +5,18 @@ use Rattle.wire.proofs.check.mandatory_check.Tie as tie
 
 returns : tie.Need-returns
 returns c =
-    let a = c .before .before .before .before .before .before .before .args in
-    head-fine (a .k) (a .p .now) (c .before .before .before .before .before .head-check .ensures) (c .before .before .before .enum-told .given .1) (c .before .before .count-at .ensures) (c .before .elements-at .ensures .0) (c .elements-check .ensures)
+    let at-elements-at = c .before in
+    let at-count-at = at-elements-at .before in
+    let at-test = at-count-at .before in
+    let at-head-check = at-test .before .before in
+    let start = at-head-check .before .before in
+    let a = start .args in
+    head-fine (a .k) (a .p .now) (at-head-check .head-check .ensures) (at-test .enum-told .given .1) (at-count-at .count-at .ensures)
+    (at-elements-at .elements-at .ensures .0) (c .elements-check .ensures)
 
 returns-2 : tie.Need-returns-2
-returns-2 c = let a = c .before .before .before .before .before .args in head-breaks (a .k) (a .p .now) (c .before .before .before .head-check .ensures) (c .before .h .given .1)
+returns-2 c = let a = c .before .before .before .before .before .args in head-breaks (a .k) (a .p .now) (c .before .before .before .head-check .ensures)
+    (c .before .h .given .1)
 
 pub mandatory-check-spec : {M : Type 1} → statement M
 mandatory-check-spec =

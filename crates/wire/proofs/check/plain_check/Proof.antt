@@ -5,8 +5,15 @@ use Rattle.wire.proofs.check.plain_check.Tie as tie
 
 returns : tie.Need-returns
 returns c =
-    more (c .before .before .before .before .before .before .field .ensures)
-    (more (c .before .before .before .before .before .field2 .ensures) (more (c .before .before .before .before .field3 .ensures) (one (c .before .before .before .field4 .ensures)) (c .before .before .and-then .ensures)) (c .before .and-then2 .ensures))
+    let at-and-then2 = c .before in
+    let at-and-then = at-and-then2 .before in
+    let at-field4 = at-and-then .before in
+    let at-field3 = at-field4 .before in
+    let at-field2 = at-field3 .before in
+    let at-field = at-field2 .before in
+    more (at-field .field .ensures)
+    (more (at-field2 .field2 .ensures) (more (at-field3 .field3 .ensures) (one (at-field4 .field4 .ensures)) (at-and-then .and-then .ensures))
+    (at-and-then2 .and-then2 .ensures))
     (c .and-then3 .ensures)
 
 pub plain-check-spec : {M : Type 1} → statement M

@@ -11,9 +11,12 @@ returns c = sym (c .before .record-fine .ensures (c .if1 .taken))
 
 returns-2 : tie.Need-returns-2
 returns-2 c =
-    let a = c .before .before .before .before .before .before .args in
+    let at-record-content-check = c .before in
+    let at-record-length-check = at-record-content-check .before in
+    let start = at-record-length-check .before .before .before .before in
+    let a = start .args in
     joined (recordLengthChecks idLength (a .k) (a .p .now) (a .r)) (recordContentChecks idLength (a .k) (a .p .now) (a .r))
-    (c .before .before .record-length-check .ensures) (c .before .record-content-check .ensures) (c .and-then .ensures)
+    (at-record-length-check .record-length-check .ensures) (at-record-content-check .record-content-check .ensures) (c .and-then .ensures)
 
 pub record-check-spec : {M : Type 1} → statement M
 record-check-spec =

@@ -28,11 +28,16 @@ returns-5 c = never
 
 sub-content-fine : tie.Need-sub-content-fine
 sub-content-fine c =
-    let key = c .before .before .before .before .octet-in .result in
-    let len = c .before .before .before .before .before .before .field2-in2 .result in
-    let good = c .before .before .before .key-length-good in
-    covers (c .before .before .before .before .before .before .before .before .before .before .before .args .k) key (12 + key + 4) len
-    (sym (good .ensures) ∙ not-false (good .result) (c .before .before .if4 .left))
+    let at-if4 = c .before .before in
+    let at-key-length-good = at-if4 .before in
+    let at-octet-in = at-key-length-good .before in
+    let at-field2-in2 = at-octet-in .before .before in
+    let start = at-field2-in2 .before .before .before .before .before in
+    let key = at-octet-in .octet-in .result in
+    let len = at-field2-in2 .field2-in2 .result in
+    let good = at-key-length-good .key-length-good in
+    covers (start .args .k) key (12 + key + 4) len
+    (sym (good .ensures) ∙ not-false (good .result) (at-if4 .if4 .left))
 
 returns-6 : tie.Need-returns-6
 returns-6 c e =

@@ -27,29 +27,55 @@ returns : tie.Need-returns
 returns c = code-5 (c .before .before .before .args .p .now) (sym (c .before .length-good .ensures) ∙ not-true (c .before .length-good .result) (c .if1 .taken))
 
 returns-2 : tie.Need-returns-2
-returns-2 c = code-6 (c .before .before .before .before .before .args .p .now) (length-ok (c .before .before)) (unequal 1 (c .before .octet .ensures) (c .if2 .taken))
+returns-2 c = code-6 (c .before .before .before .before .before .args .p .now) (length-ok (c .before .before))
+    (unequal 1 (c .before .octet .ensures) (c .if2 .taken))
 
 returns-3 : tie.Need-returns-3
 returns-3 c =
-    code-7 (c .before .before .before .before .before .before .before .args .p .now) (length-ok (c .before .before .before .before)) (version-ok (c .before .before))
-    (sym (c .before .type-good .ensures) ∙ not-true (c .before .type-good .result) (c .if3 .taken))
+    let at-type-good = c .before in
+    let at-version-ok = at-type-good .before in
+    let at-length-ok = at-version-ok .before .before in
+    let start = at-length-ok .before .before .before in
+    code-7 (start .args .p .now) (length-ok at-length-ok) (version-ok at-version-ok)
+    (sym (at-type-good .type-good .ensures) ∙ not-true (at-type-good .type-good .result) (c .if3 .taken))
 
 ones-sum-requires : tie.Need-ones-sum-requires
-ones-sum-requires c κs = short (c .before .before .before .before .before .before .before .args .p .now) (length-ok (c .before .before .before .before))
+ones-sum-requires c κs =
+    let at-length-ok = c .before .before .before .before in
+    let start = at-length-ok .before .before .before in
+    short (start .args .p .now) (length-ok at-length-ok)
 
 returns-4 : tie.Need-returns-4
 returns-4 c =
-    code-8 (c .before .before .before .before .before .before .before .before .before .args .p .now) (length-ok (c .before .before .before .before .before .before)) (version-ok (c .before .before .before .before)) (type-ok (c .before .before)) (unequal 65535 (c .before .ones-sum .ensures) (c .if4 .taken))
+    let at-ones-sum = c .before in
+    let at-type-ok = at-ones-sum .before in
+    let at-version-ok = at-type-ok .before .before in
+    let at-length-ok = at-version-ok .before .before in
+    let start = at-length-ok .before .before .before in
+    code-8 (start .args .p .now) (length-ok at-length-ok) (version-ok at-version-ok) (type-ok at-type-ok)
+    (unequal 65535 (at-ones-sum .ones-sum .ensures) (c .if4 .taken))
 
 returns-5 : tie.Need-returns-5
 returns-5 c =
-    code-9 (c .before .before .before .before .before .before .before .before .before .before .before .args .p .now) (length-ok (c .before .before .before .before .before .before .before .before)) (version-ok (c .before .before .before .before .before .before)) (type-ok (c .before .before .before .before)) (sum-ok (c .before .before))
-    (unequal 0 (c .before .field2 .ensures) (c .if5 .taken))
+    let at-field2 = c .before in
+    let at-sum-ok = at-field2 .before in
+    let at-type-ok = at-sum-ok .before .before in
+    let at-version-ok = at-type-ok .before .before in
+    let at-length-ok = at-version-ok .before .before in
+    let start = at-length-ok .before .before .before in
+    code-9 (start .args .p .now) (length-ok at-length-ok) (version-ok at-version-ok) (type-ok at-type-ok) (sum-ok at-sum-ok)
+    (unequal 0 (at-field2 .field2 .ensures) (c .if5 .taken))
 
 returns-6 : tie.Need-returns-6
 returns-6 c =
-    code-0 (c .before .before .before .before .before .before .before .before .before .before .before .args .p .now) (length-ok (c .before .before .before .before .before .before .before .before)) (version-ok (c .before .before .before .before .before .before)) (type-ok (c .before .before .before .before)) (sum-ok (c .before .before))
-    (equal 0 (c .before .field2 .ensures) (c .if5 .left))
+    let at-field2 = c .before in
+    let at-sum-ok = at-field2 .before in
+    let at-type-ok = at-sum-ok .before .before in
+    let at-version-ok = at-type-ok .before .before in
+    let at-length-ok = at-version-ok .before .before in
+    let start = at-length-ok .before .before .before in
+    code-0 (start .args .p .now) (length-ok at-length-ok) (version-ok at-version-ok) (type-ok at-type-ok) (sum-ok at-sum-ok)
+    (equal 0 (at-field2 .field2 .ensures) (c .if5 .left))
 
 pub fixed-code-spec : {M : Type 1} → statement M
 fixed-code-spec =

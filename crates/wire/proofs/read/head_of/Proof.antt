@@ -5,9 +5,18 @@ use Rattle.wire.proofs.read.head_of.Tie as tie
 
 returns : tie.Need-returns
 returns c =
-    let a = c .before .before .before .before .before .before .before .args in
-    let f = c .elements-at .ensures in
-    (head-means (a .k) (a .p .now) (c .before .before .before .before .before .common-at .ensures .0) (c .before .before .before .before .field2 .ensures) (c .before .before .before .field22 .ensures) (c .before .before .octet .ensures) (c .before .count-at .ensures) (f .0), f .1)
+    let at-count-at = c .before in
+    let at-octet = at-count-at .before in
+    let at-field22 = at-octet .before in
+    let at-field2 = at-field22 .before in
+    let at-common-at = at-field2 .before in
+    let start = at-common-at .before .before in
+    let a = start .args in
+    let f = c .elements-at .ensures in (
+      head-means (a .k) (a .p .now) (at-common-at .common-at .ensures .0) (at-field2 .field2 .ensures) (at-field22 .field22 .ensures)
+          (at-octet .octet .ensures) (at-count-at .count-at .ensures) (f .0),
+      f .1,
+    )
 
 pub head-of-spec : {M : Type 1} → statement M
 head-of-spec =

@@ -9,13 +9,29 @@ returns c = refused (c .before .before .before .args .p .now) (c .before .fixed-
 
 returns-2 : tie.Need-returns-2
 returns-2 c =
-    packet (c .before .before .before .before .before .before .before .before .before .args .p .now) (c .before .before .before .before .before .before .before .fixed-code .ensures) (c .before .before .before .before .before .before .if1 .left) (c .before .before .before .before .before .octet .ensures) (c .before .before .before .before .kind-of .ensures) (c .before .before .before .mandatory-check .ensures)
-    (c .before .enum-told .given .1) (c .head-of .ensures .0) (c .head-of .ensures .1)
+    let at-test = c .before in
+    let at-mandatory-check = at-test .before .before in
+    let at-kind-of = at-mandatory-check .before in
+    let at-octet = at-kind-of .before in
+    let at-if1 = at-octet .before in
+    let at-fixed-code = at-if1 .before in
+    let start = at-fixed-code .before .before in
+    packet (start .args .p .now) (at-fixed-code .fixed-code .ensures) (at-if1 .if1 .left) (at-octet .octet .ensures) (at-kind-of .kind-of .ensures)
+    (at-mandatory-check .mandatory-check .ensures)
+    (at-test .enum-told .given .1) (c .head-of .ensures .0) (c .head-of .ensures .1)
 
 returns-3 : tie.Need-returns-3
 returns-3 c =
-    malformed (c .before .before .before .before .before .before .before .before .before .args .p .now) (c .before .before .before .before .before .before .before .fixed-code .ensures) (c .before .before .before .before .before .before .if1 .left) (c .before .before .before .before .before .octet .ensures) (c .before .before .before .before .kind-of .ensures) (c .before .before .before .mandatory-check .ensures)
-    (c .before .at .given .1)
+    let at-at = c .before in
+    let at-mandatory-check = at-at .before .before in
+    let at-kind-of = at-mandatory-check .before in
+    let at-octet = at-kind-of .before in
+    let at-if1 = at-octet .before in
+    let at-fixed-code = at-if1 .before in
+    let start = at-fixed-code .before .before in
+    malformed (start .args .p .now) (at-fixed-code .fixed-code .ensures) (at-if1 .if1 .left) (at-octet .octet .ensures) (at-kind-of .kind-of .ensures)
+    (at-mandatory-check .mandatory-check .ensures)
+    (at-at .at .given .1)
 
 pub read-spec : {M : Type 1} → statement M
 read-spec =

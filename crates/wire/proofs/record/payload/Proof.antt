@@ -4,7 +4,8 @@ use Rattle.wire.proofs.record.payload.Statement.{statement}
 use Rattle.wire.proofs.record.payload.Tie as tie
 
 returns : tie.Need-returns
-returns c = payload-at (c .before .before .before .before .args .p .now) (c .before .before .before .before .args .r) (c .before .before .summary-size .ensures .0) (c .before .payload-size .ensures) (c .part-of .ensures)
+returns c = payload-at (c .before .before .before .before .args .p .now) (c .before .before .before .before .args .r)
+    (c .before .before .summary-size .ensures .0) (c .before .payload-size .ensures) (c .part-of .ensures)
 
 pub payload-spec : {M : Type 1} → statement M
 payload-spec =

@@ -11,7 +11,10 @@ widths : (c : tie.Start) → (length (c .args .c .sender) ≡ 4) × (length (c .
 widths c = search needs
 
 returns : tie.Need-returns
-returns c = let a = c .before .before .before .before .before .before .args in common-octets (a .c) (widths (c .before .before .before .before .before .before)) (a .flags) (a .len) (a .count)
+returns c =
+    let start = c .before .before .before .before .before .before in
+    let a = start .args in
+    common-octets (a .c) (widths start) (a .flags) (a .len) (a .count)
 
 pub common-part-spec : {M : Type 1} → statement M
 common-part-spec =

@@ -23,12 +23,19 @@ common c = search needs
 
 returns : tie.Need-returns
 returns c =
-    let a = c .before .before .before .before .before .before .before .before .before .before .args in
-    let f = c .before .before .before .before .before .before .before .before .ca-start in
-    let x = c .before .before .before .before .before .before .before .flags-of in
-    let m = c .before .before .before .before .before .before .common-part in
-    finishes-ca (a .c) (widths (c .before .before .before .before .before .before .before .before .before .before)) (a .number) (a .flags) (x .ensures)
-    (behind Ca (put4 (a .number .0) [] ++ commonPart (a .c) (x .result) 4 (a .count)) (f .result) (m .result) 32 (a .n) (λ i. f .ensures i ++ common-whole (a .c) (widths (c .before .before .before .before .before .before .before .before .before .before)) (x .result) (a .count) (m .ensures) i) (omega (arith, start (c .before .before .before .before .before .before .before .before), common (c .before .before .before .before .before .before))) (c .before .before .put-head .ensures))
+    let at-put-head = c .before .before in
+    let at-common-part = at-put-head .before .before .before .before in
+    let at-flags-of = at-common-part .before in
+    let at-ca-start = at-flags-of .before in
+    let start-2 = at-ca-start .before .before in
+    let a = start-2 .args in
+    let f = at-ca-start .ca-start in
+    let x = at-flags-of .flags-of in
+    let m = at-common-part .common-part in
+    finishes-ca (a .c) (widths (start-2)) (a .number) (a .flags) (x .ensures)
+    (behind Ca (put4 (a .number .0) [] ++ commonPart (a .c) (x .result) 4 (a .count)) (f .result) (m .result) 32 (a .n)
+    (λ i. f .ensures i ++ common-whole (a .c) (widths (start-2)) (x .result) (a .count) (m .ensures) i)
+    (omega (arith, start at-ca-start, common at-common-part)) (at-put-head .put-head .ensures))
 
 pub finish-ca-spec : {M : Type 1} → statement M
 finish-ca-spec =

@@ -21,10 +21,16 @@ common c = search needs
 
 returns : tie.Need-returns
 returns c =
-    let a = c .before .before .before .before .before .before .before .before .before .args in
-    let f = c .before .before .before .before .before .before .before .fixed-part in
-    let m = c .before .before .before .before .before .before .common-part in
-    behind (a .k) (commonPart (a .c) 0 4 (a .count)) (f .result) (m .result) 28 (a .n) (λ i. f .ensures i ++ common-whole (a .c) (widths (c .before .before .before .before .before .before .before .before .before)) 0 (a .count) (m .ensures) i) (omega (arith, start (c .before .before .before .before .before .before .before), common (c .before .before .before .before .before .before))) (c .before .before .put-head .ensures)
+    let at-put-head = c .before .before in
+    let at-common-part = at-put-head .before .before .before .before in
+    let at-fixed-part = at-common-part .before in
+    let start-2 = at-fixed-part .before .before in
+    let a = start-2 .args in
+    let f = at-fixed-part .fixed-part in
+    let m = at-common-part .common-part in
+    behind (a .k) (commonPart (a .c) 0 4 (a .count)) (f .result) (m .result) 28 (a .n)
+    (λ i. f .ensures i ++ common-whole (a .c) (widths (start-2)) 0 (a .count) (m .ensures) i) (omega (arith, start at-fixed-part, common at-common-part))
+    (at-put-head .put-head .ensures)
 
 pub finish-csu-spec : {M : Type 1} → statement M
 finish-csu-spec =

@@ -9,7 +9,8 @@ widths : (c : tie.Start) → (length (c .args .c .sender) ≡ 4) × (length (c .
 widths c = search needs
 
 returns : tie.Need-returns
-returns c = finishes-request (c .before .before .before .before .before .args .c) (widths (c .before .before .before .before .before)) (c .before .before .finish-csu .ensures)
+returns c = finishes-request (c .before .before .before .before .before .args .c) (widths (c .before .before .before .before .before))
+    (c .before .before .finish-csu .ensures)
 
 pub finish-request-spec : {M : Type 1} → statement M
 finish-request-spec = tie.close (tie.spec (λ c κs. search needs) (λ c. search needs) returns)

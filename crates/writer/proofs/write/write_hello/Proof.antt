@@ -21,21 +21,36 @@ common c = search needs
 
 taken : (c : tie.After-first) → length (c .first .result .now) ≡ 16 + c .before .before .before .before .before .before .receiver-len .result
 taken c =
-    let l = c .before .before .before .before .before .before .receiver-len in
-    let m = c .before .before .before .before .common-part .result in
-    ap length (c .first .ensures) ∙ length-take-le (32 + l .result - 16) m (omega (arith, l .ensures .1, common (c .before .before .before .before))) ∙ omega arith
+    let at-common-part = c .before .before .before .before in
+    let at-receiver-len = at-common-part .before .before in
+    let l = at-receiver-len .receiver-len in
+    let m = at-common-part .common-part .result in
+    ap length (c .first .ensures) ∙ length-take-le (32 + l .result - 16) m (omega (arith, l .ensures .1, common at-common-part)) ∙ omega arith
 
 put-head-requires : tie.Need-put-head-requires
-put-head-requires c κs = let t = taken c in omega (arith, start (c .before .before .before .before .before), t, c .before .before .before .before .before .before .receiver-len .ensures .1, c .before .before .before .before .before .before .before .before .pre)
+put-head-requires c κs =
+    let at-start = c .before .before .before .before .before in
+    let at-receiver-len = at-start .before in
+    let start-2 = at-receiver-len .before .before in
+    let t = taken c in
+    omega (arith, start at-start, t, at-receiver-len .receiver-len .ensures .1, start-2 .pre)
 
 returns : tie.Need-returns
 returns c =
-    let a = c .before .before .before .before .before .before .before .before .before .before .before .args in
-    let l = c .before .before .before .before .before .before .before .before .before .receiver-len in
-    let f = c .before .before .before .before .before .before .before .before .hello-start in
-    let m = c .before .before .before .before .before .before .before .common-part in
+    let at-put-head = c .before .before in
+    let at-first = at-put-head .before in
+    let at-common-part = at-first .before .before .before .before in
+    let at-hello-start = at-common-part .before in
+    let at-receiver-len = at-hello-start .before in
+    let start = at-receiver-len .before .before in
+    let a = start .args in
+    let l = at-receiver-len .receiver-len in
+    let f = at-hello-start .hello-start in
+    let m = at-common-part .common-part in
     let size : 32 + l .result - 16 ≡ 16 + l .result = omega arith in
-    hello-wrote (a .c) (widths (c .before .before .before .before .before .before .before .before .before .before .before)) (a .interval) (a .factor) (a .named) (c .before .before .before .before .before .before .before .before .before .before .before .pre) (l .ensures .0) (l .ensures .1) refl (f .ensures) (c .before .before .before .first .ensures ∙ ap (λ (x : ℕ). take x (m .result)) size ∙ common-part (a .c) (widths (c .before .before .before .before .before .before .before .before .before .before .before)) (a .named) (l .ensures .0) (m .ensures)) (taken (c .before .before .before)) (c .before .before .put-head .ensures)
+    hello-wrote (a .c) (widths start) (a .interval) (a .factor) (a .named) (start .pre) (l .ensures .0) (l .ensures .1) refl (f .ensures)
+    (at-first .first .ensures ∙ ap (λ (x : ℕ). take x (m .result)) size ∙ common-part (a .c) (widths start) (a .named) (l .ensures .0) (m .ensures))
+    (taken at-first) (at-put-head .put-head .ensures)
 
 pub write-hello-spec : {M : Type 1} → statement M
 write-hello-spec =
