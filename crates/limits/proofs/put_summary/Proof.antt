@@ -1,3 +1,4 @@
+-- A name of eight octets is within the bounds of a record, and no payload is put.
 use lib.ListN.{length}
 use native.Mathlib.Omega.{arith}
 use mathlib.Core.Path.{ap}

@@ -1,3 +1,4 @@
+-- Each field of the slot is that of the words of slot k.
 use Rattle.table.specs.Words.{slotIn}
 use borrow.Author.Needs.{needs}
 use Rattle.table.proofs.slot_at.Statement.{statement}

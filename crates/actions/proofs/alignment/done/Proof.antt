@@ -1,3 +1,4 @@
+-- The link is moved by the rule, the summaries taken in, the kept CA dropped, and an empty list in Update makes it Aligned.
 use Rattle.actions.proofs.CaLaws.{done-leaves}
 use mathlib.Core.Path.{_∙_}
 use borrow.Author.Needs.{needs}

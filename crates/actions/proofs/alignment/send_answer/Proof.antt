@@ -1,3 +1,4 @@
+-- The CA is written and kept, the slot put with where it goes on; then an empty list in Update makes it Aligned.
 use mathlib.Core.Path.{_∙_}
 use Rattle.actions.proofs.CaLaws.{answer-sent}
 use borrow.Author.Needs.{needs}

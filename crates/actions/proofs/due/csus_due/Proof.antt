@@ -1,3 +1,4 @@
+-- Less than a second, or an empty list, means that none is due.
 use mathlib.Core.Path.{sym, _∙_}
 use borrow.Author.Tests.{not-true, not-false}
 use Rattle.table.specs.Words.{slotIn}

@@ -1,3 +1,4 @@
+-- A state that does not hear the peer has no Hello that is late; else the times of the last one decide.
 use Rattle.table.specs.Words.{slotIn}
 use Rattle.actions.proofs.PollLaws.{stale-heard, stale-not}
 use borrow.Author.Needs.{needs}

@@ -1,3 +1,4 @@
+-- The CSUS of the first four requests is written, and then the list rotated: what is written is of the list before.
 use Rattle.actions.proofs.SendLaws.{packet-as, csus-is}
 use Rattle.actions.specs.Steps.{commonOf, ourMessage}
 use Rattle.actions.specs.Parts.{slotNow}

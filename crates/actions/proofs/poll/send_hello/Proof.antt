@@ -1,3 +1,4 @@
+-- The Hello names the peer where the slot's state says that it is heard.
 use Rattle.actions.proofs.SendLaws.{packet-as, hello-is}
 use Rattle.actions.specs.Steps.{commonOf}
 use Rattle.actions.specs.Parts.{slotNow}

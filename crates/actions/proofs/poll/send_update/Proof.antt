@@ -1,3 +1,4 @@
+-- The rows that were picked are the next four that wait, so that the request is that of the rules.
 use Rattle.actions.proofs.SendLaws.{packet-as, update-is}
 use Rattle.actions.specs.Steps.{commonOf, ourMessage}
 use Rattle.actions.specs.Parts.{slotNow}

@@ -1,3 +1,4 @@
+-- Settings that are taken give the line of record 0; any others the last line, `cut`.
 use mathlib.Core.Path.{sym, _∙_}
 use Rattle.lines.proofs.RunLaws.{good, bad}
 use Rattle.lines.proofs.ChunkLaws.{opens, opens-cut}

@@ -1,3 +1,4 @@
+-- Each setting is a field of the record at its place.
 use Rattle.laws.proofs.Lists.{part-length}
 use native.Mathlib.Omega.{arith}
 use lib.ListN.{length}

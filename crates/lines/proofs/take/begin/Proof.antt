@@ -1,3 +1,4 @@
+-- A record too short, or of another kind, starts a server with settings that are refused; any other starts one with its own.
 use Rattle.lines.proofs.LineLaws.{begins, begins-not, short, not-settings, is-settings}
 use borrow.Author.Needs.{needs}
 use Rattle.lines.proofs.take.begin.Statement.{statement}

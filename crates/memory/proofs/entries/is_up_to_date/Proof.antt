@@ -1,3 +1,4 @@
+-- By the row found: its number against the one given; without a row, not up to date.
 use Rattle.memory.specs.Memory.{entryNamed}
 use Rattle.memory.proofs.EntryLaws.{up-found, up-none}
 use Rattle.memory.proofs.RowInsert.{found-below}

@@ -1,3 +1,4 @@
+-- By the row found; with none, nothing changes.
 use Rattle.memory.proofs.EntryLaws.{found-index, found-marked, found-absent}
 use Rattle.rules.specs.Updates.{waitsAgain}
 use borrow.Author.Needs.{needs}

@@ -1,3 +1,4 @@
+-- By the row found; with none, nothing changes.
 use Rattle.memory.proofs.EntryLaws.{found-index, found-changed, found-absent}
 use Rattle.memory.specs.Memory.{isMarked}
 use Rattle.rules.specs.Updates.{purgedRow}

@@ -1,3 +1,4 @@
+-- The row's marks with one bit cleared are its marks without the slot.
 use mathlib.Core.Path.{refl, _∙_}
 use mathlib.Core.Bool.{false}
 use Rattle.protocol.specs.Fields.{octet}

@@ -1,3 +1,4 @@
+-- With no hops left nothing changes, which is what the rule says of such a row; else the mark is set.
 use mathlib.Core.Path.{_≡_, refl, sym, _∙_}
 use Rattle.memory.specs.Memory.{valueAt}
 use Rattle.rules.specs.Updates.{waitsAgain}

@@ -1,3 +1,4 @@
+-- The row's marks with one bit set are its marks with the slot.
 use mathlib.Core.Path.{refl, _∙_}
 use mathlib.Core.Bool.{true}
 use Rattle.protocol.specs.Fields.{octet}

@@ -1,3 +1,4 @@
+-- A request of another entry stays; one of this goes where all do, or where its number is no greater.
 use Rattle.memory.specs.Memory.{entryNamed}
 use Rattle.memory.proofs.RequestSteps.{goes-all, goes-by, goes-not}
 use Rattle.memory.specs.Lists.{roomsIn, noRequest}

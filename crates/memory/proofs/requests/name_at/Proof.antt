@@ -1,3 +1,4 @@
+-- The octets of the room's name, with a key or without by its tag.
 use native.Mathlib.Omega.{arith}
 use mathlib.Core.Path.{ap, _∙_}
 use lib.ListN.{length}

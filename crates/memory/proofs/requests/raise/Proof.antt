@@ -1,3 +1,4 @@
+-- A greater number is put in the entry's room; any other leaves the memory.
 use Rattle.memory.specs.Memory.{entryNamed}
 use Rattle.memory.proofs.RequestSteps.{raise-done, raise-not}
 use borrow.Author.Needs.{needs}

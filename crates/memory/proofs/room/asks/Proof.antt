@@ -1,3 +1,4 @@
+-- Another tag means another entry; else the names are compared.
 use mathlib.Core.Path.{refl, ap, sym, _∙_}
 use native.Mathlib.Omega.{arith}
 use mathlib.Core.List.{List}

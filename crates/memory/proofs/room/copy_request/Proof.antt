@@ -1,3 +1,4 @@
+-- The octets of one room and its tag, put in the other: the request moves whole.
 use mathlib.Core.Path.{ap, _∙_}
 use Prim.Native.Nat.{ℕ}
 use lib.ListN.{getD}

@@ -1,3 +1,4 @@
+-- The room's octets and its tag are put; the tags lie apart from the rooms.
 use mathlib.Core.Path.{ap}
 use mathlib.Core.List.{List}
 use Prim.Native.Nat.{ℕ}

@@ -1,3 +1,4 @@
+-- The octets of the row's name, with a key or without by its tag.
 use Rattle.protocol.specs.Fields.{octet}
 use Rattle.memory.specs.Layout.{tagPlace}
 use lib.ListN.{length}

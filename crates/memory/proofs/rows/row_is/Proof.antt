@@ -1,3 +1,4 @@
+-- Another tag, a free row and another name each mean that the row does not hold the entry; else it does.
 use Rattle.memory.specs.Memory.{entryNamed}
 use Rattle.rules.specs.Server.{holds}
 use Rattle.laws.specs.Tables.{same}

@@ -1,3 +1,4 @@
+-- Head, sections, name and payload lie side by side, so that each part put leaves those before it: together they are the row.
 use Rattle.memory.proofs.RowWhole.{row-put}
 use Rattle.laws.specs.Puts.{putAt}
 use Prim.Native.Nat.{ℕ}

@@ -1,3 +1,4 @@
+-- The head is put and then the payload behind the name, whose octets stay.
 use Rattle.memory.specs.Layout.{rowPlace}
 use Rattle.laws.specs.Puts.{putAt}
 use Prim.Native.Nat.{ℕ, _+_}

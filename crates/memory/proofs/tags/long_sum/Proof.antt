@@ -1,3 +1,4 @@
+-- Up to 16 octets the first and the last eight, above them those between too.
 use Rattle.memory.proofs.TagLaws.{ends-sum, three-sum}
 use Rattle.memory.specs.Memory.{plus64}
 use mathlib.Core.Path.{_∙_}

@@ -1,3 +1,4 @@
+-- The row found decides: a greater number is asked for, or the row is put as it is held. Either is the record that `solicited` says.
 use Rattle.records.proofs.SolicitedLaws.{answer-null, answer-held}
 use Rattle.records.proofs.PutLaws.{puts-as}
 use Rattle.protocol.specs.Messages.{CsaRecord}

@@ -1,3 +1,4 @@
+-- A rule that acknowledges adds its summary to those before; any other adds none.
 use Rattle.records.proofs.UpdateLaws.{reply-put, reply-none}
 use Rattle.records.proofs.WalkLaws.{named-summary}
 use Rattle.records.specs.Places.{entryRecord}

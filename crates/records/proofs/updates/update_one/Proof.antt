@@ -1,3 +1,4 @@
+-- The record is read in its place, its rule taken, and a summary put where the rule acknowledges: `Updates` of the three answers.
 use Rattle.records.proofs.UpdateLaws.{one-updated}
 use Rattle.records.proofs.WalkLaws.{named, named-fits}
 use Rattle.records.specs.Walks.{csaAt, updateRuleOf}

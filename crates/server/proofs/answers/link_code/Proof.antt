@@ -1,3 +1,4 @@
+-- The refusals in their order: no slot, no peer in it, an earlier time.
 use Rattle.server.proofs.CodeLaws.{code-above, code-unused, code-early, code-none}
 use borrow.Author.Tests.{not-true, not-false}
 use mathlib.Core.Path.{sym, _∙_}

@@ -1,3 +1,4 @@
+-- The rows are swept where the event changed one or the slot entered Down or Negotiate, and the time is set.
 use Rattle.server.proofs.ServerLaws.{closed}
 use Rattle.rules.specs.Links.{enters}
 use mathlib.Core.Bool.{Bool, _||_}

@@ -1,3 +1,4 @@
+-- By the row found: none, or one that is purged already.
 use borrow.Author.Tests.{not-true, not-false}
 use Rattle.rules.specs.Refusals.{ownEntry}
 use Rattle.slots.specs.State.{settingsOf}

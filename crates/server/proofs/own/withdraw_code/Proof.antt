@@ -1,3 +1,4 @@
+-- By the row found: an empty payload, or a number that is spent.
 use Rattle.rules.specs.Refusals.{ownEntry}
 use Rattle.slots.specs.State.{settingsOf}
 use Rattle.server.specs.State.{serverOf}

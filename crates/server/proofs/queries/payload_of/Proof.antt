@@ -1,3 +1,4 @@
+-- A row above the last or free has no octets; else they are those of the row.
 use mathlib.Core.Path.{ap, _∙_}
 use Rattle.server.proofs.QueryLaws.{is-below, row-used, row-free}
 use Rattle.server.specs.Queries.{valueShown}

@@ -1,3 +1,4 @@
+-- All three flags, no records, and a greater ID: the first that fails decides.
 use borrow.Author.Tests.{not-true, not-false}
 use mathlib.Core.Path.{sym, _∙_}
 use borrow.Author.Needs.{needs}

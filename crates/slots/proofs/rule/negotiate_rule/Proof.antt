@@ -1,3 +1,4 @@
+-- Slave, master or refused, by the sender's ID and the head of the CA.
 use mathlib.Core.Path.{sym, _∙_}
 use borrow.Author.Needs.{needs}
 use Rattle.slots.proofs.rule.negotiate_rule.Statement.{statement}

@@ -1,3 +1,4 @@
+-- Four fields in packet order; the first that breaks a rule decides.
 use Prim.Native.Nat.{ℕ}
 use lib.Dec.{ltb}
 use Rattle.protocol.specs.declared.Checked.{Checked}

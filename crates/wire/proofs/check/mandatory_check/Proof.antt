@@ -1,3 +1,4 @@
+-- What breaks a rule in the head decides; else what is behind it.
 use Rattle.wire.proofs.Checking.{head-fine, head-breaks}
 use borrow.Author.Needs.{needs}
 use Rattle.wire.proofs.check.mandatory_check.Statement.{statement}

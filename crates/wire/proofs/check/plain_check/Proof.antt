@@ -1,3 +1,4 @@
+-- Four fields in packet order, each of which only has to be there.
 use Rattle.wire.proofs.Checking.{one, more}
 use borrow.Author.Needs.{needs}
 use Rattle.wire.proofs.check.plain_check.Statement.{statement}

@@ -1,3 +1,4 @@
+-- Each part of the head is read at the place that its kind gives.
 use Rattle.wire.proofs.Readings.{head-means}
 use borrow.Author.Needs.{needs}
 use Rattle.wire.proofs.read.head_of.Statement.{statement}

@@ -1,3 +1,4 @@
+-- The type octets one by one; what is none of the first four is a Hello.
 use borrow.Author.Tests.{eq-eqb, ne-eqb}
 use Rattle.wire.proofs.read.kind_of.Statement.{statement}
 use Rattle.wire.proofs.read.kind_of.Tie as tie
