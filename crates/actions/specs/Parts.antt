@@ -15,7 +15,7 @@ use Rattle.memory.specs.Memory.{rowsIn, Memory, memoryOf, requestsPut, keptPut,
 use Rattle.writer.specs.Write.{Wrote}
 use Rattle.slots.specs.declared.state.Slot.{Slot}
 use Rattle.slots.specs.State.{slotOf}
-use Rattle.table.specs.Words.{slotIn}
+use Rattle.table.specs.Words.{slotIn, OthersStay}
 use Rattle.actions.specs.declared.parts.Acted.{Acted}
 
 -- slot k with its part of the memory
@@ -47,7 +47,7 @@ Moves k l x before after r =
 -- the same in the table, whose other slots stay
 pub record MovesAt (k : ℕ) (l : Link) (slots slots′ before after : List ℕ) : Type 0 where
   pub moves : Moves k l (slotIn slots k) before after (slotIn slots′ k)
-  pub others : (j : ℕ) → (j ≡ k → ⊥) → slotIn slots′ j ≡ slotIn slots j
+  pub others : OthersStay k slots slots′
 
 -- ---- what is left and written
 -- both, of an event before its end
@@ -58,4 +58,4 @@ pub record Acts (k : ℕ) (slot : rules.Slot) (rows : List Row) (p before after 
 -- the same in the table, whose other slots stay
 pub record ActsAt (k : ℕ) (slot : rules.Slot) (rows : List Row) (p slots slots′ before after out out′ : List ℕ) (n : ℕ) : Type 0 where
   pub acts : Acts k slot rows p before after out out′ (record { slot = slotIn slots′ k; written = n })
-  pub others : (j : ℕ) → (j ≡ k → ⊥) → slotIn slots′ j ≡ slotIn slots j
+  pub others : OthersStay k slots slots′

@@ -41,7 +41,7 @@ use Rattle.writer.specs.Write.{messageFrom, Wrote}
 use Rattle.slots.specs.declared.state.Settings.{Settings}
 use Rattle.slots.specs.declared.state.Slot.{Slot}
 use Rattle.slots.specs.State.{slotOf}
-use Rattle.table.specs.Words.{slotIn}
+use Rattle.table.specs.Words.{slotIn, OthersStay}
 use Rattle.actions.specs.declared.parts.Acted.{Acted}
 use Rattle.actions.specs.declared.due.Due.{Due}
 use Rattle.actions.specs.declared.due.Due.the-variants.{Nothing, Hello, FirstCa, KeptCa, Csus, Update}
@@ -160,7 +160,7 @@ SlotDue d now p x r =
 
 pub record PutsDue (d : poll.Due) (now : ℕ) (p : Picks) (k : ℕ) (before after : List ℕ) : Type 0 where
   pub slot : SlotDue d now p (slotIn before k) (slotIn after k)
-  pub others : (j : ℕ) → (j ≡ k → ⊥) → slotIn after j ≡ slotIn before j
+  pub others : OthersStay k before after
 
 abbrev pub PollsAt : ℕ → ℕ → rules.Settings → List ℕ → List ℕ → List ℕ → List ℕ → List ℕ → List ℕ → ℕ → Type 0
 PollsAt k now s slots slots′ before after out out′ n =

@@ -140,7 +140,7 @@ fn taken_in(memory: &mut [u8], k: usize, p: &[u8], h: Head, x: Slot, l: Link) ->
 }
 
 // Update with an empty request list becomes Aligned.
-pub fn complete(memory: &[u8], k: usize, x: Slot) -> Slot
+fn complete(memory: &[u8], k: usize, x: Slot) -> Slot
     requires { ⌜ (length (now memory) ≡ memorySize) × (k < 8) ⌝ }
     ensures { λ r. ⌜ slotWith r k (now (memory .entry)) ≡ slots.completed (slotWith x k (now (memory .entry))) ⌝ }
 {
@@ -219,7 +219,7 @@ fn answer(
 
 // ---- the other rules
 // The kept CA is sent again.
-pub fn repeat(memory: &[u8], k: usize, time: u32, x: Slot, out: &mut [u8]) -> Acted
+fn repeat(memory: &[u8], k: usize, time: u32, x: Slot, out: &mut [u8]) -> Acted
     requires { ⌜ (length (now memory) ≡ memorySize) × ((k < 8) × (284 ≤ length (now out))) ⌝ }
     ensures { λ r. ⌜ (slotWith (r .slot) k (now (memory .entry)) ≡ slots.caSent time (slotWith x k (now (memory .entry))))
         × Wrote (keptIn (now (memory .entry)) k) (now (out .entry)) (now (out .exit)) (r .written) ⌝ }

@@ -42,7 +42,7 @@ pub fn empty_lists(memory: &mut [u8], k: usize)
 }
 
 // Where Down or Negotiate is entered no row waits for the slot.
-pub fn clear_if(memory: &mut [u8], k: usize, entered: bool)
+fn clear_if(memory: &mut [u8], k: usize, entered: bool)
     requires { ⌜ (length (now memory) ≡ memorySize) × (k < 8) ⌝ }
     ensures { λ _. ⌜ memoryOf (now (memory .exit)) ≡ withRows (clearedIf entered k (rowsIn (now (memory .entry)))) (memoryOf (now (memory .entry))) ⌝ }
 {

@@ -1,12 +1,10 @@
 // Document 01, 'Poll': the Hello check, and the first packet that is due.
 ghost use mathlib.Core.Path.{_≡_};
 ghost use mathlib.Core.List.{List};
-ghost use Rattle.protocol.specs.declared.Alignment.the-variants.{Summarize};
 ghost use Rattle.protocol.specs.Layouts.{packetOf};
 ghost use Rattle.rules.specs.Rows.{nextWaiting};
 ghost use Rattle.rules.specs.Slots.{withCursor, updateSent};
 ghost use Rattle.memory.specs.Marks.{Picked};
-ghost use Rattle.actions.specs.declared.due.Due.the-variants.{Nothing};
 ghost use Prim.Native.Nat.{ℕ, _%_, _≤_, _<_};
 ghost use lib.ListN.{length};
 ghost use Rattle.rules.specs.Poll as rules;
@@ -25,7 +23,6 @@ use crate::due::Plan;
 use crate::moves;
 use crate::packets;
 use memory::kept;
-use memory::next;
 use memory::next::Picks;
 use memory::requests;
 use protocol::CaFlags;

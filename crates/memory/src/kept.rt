@@ -45,7 +45,7 @@ pub fn kept_len(memory: &[u8], k: usize) -> usize
 }
 
 // The kept CA, where it lies.
-pub fn kept_of(memory: &[u8], k: usize) -> &[u8]
+fn kept_of(memory: &[u8], k: usize) -> &[u8]
     requires { ⌜ (k < 8) × (length (now memory) ≡ memorySize) ⌝ }
     ensures { λ r. ⌜ now r ≡ keptIn (now (memory .entry)) k ⌝ }
 {

@@ -6,7 +6,7 @@ ghost use Prim.Native.Nat.{_^_, _<_};
 ghost use lib.Dec.{eqb};
 ghost use lib.ListN.{length};
 ghost use Rattle.laws.specs.Choice.{pick};
-ghost use Rattle.laws.specs.Tables.{on, has};
+ghost use Rattle.laws.specs.Tables.{on};
 ghost use Rattle.protocol.specs.Numbers as definition;
 ghost use Rattle.rules.specs.Server.{slotsMost, rowsMost, waitsFor, rowAt};
 ghost use Rattle.rules.specs.Rows as rules;
@@ -113,7 +113,7 @@ pub fn any_marks(memory: &[u8]) -> u8
 }
 
 // Row i has these marks.
-pub fn put_marks(memory: &mut [u8], i: usize, marks: u8)
+fn put_marks(memory: &mut [u8], i: usize, marks: u8)
     requires { ⌜ (length (now memory) ≡ memorySize) × (i < rowsMost) ⌝ }
     ensures { λ _. ⌜ memoryOf (now (memory .exit)) ≡ changedAt (withMarks (isMarked marks)) i (now (memory .entry)) ⌝ }
 {

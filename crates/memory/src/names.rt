@@ -3,7 +3,6 @@ ghost use mathlib.Core.Path.{_≡_};
 ghost use mathlib.Core.List.{_++_};
 ghost use Prim.Native.Nat.{_+_, _≤_};
 ghost use lib.ListN.{length, take};
-ghost use Rattle.laws.specs.Puts.{putAt};
 ghost use Rattle.memory.specs.Memory.{taggedEntry};
 ghost use Rattle.memory.specs.Search.{FitsKey};
 use crate::layout::ID;
@@ -14,26 +13,19 @@ pub struct Name {
     pub len: usize,
 }
 
-// b with src in its place from at on.
-fn put_in(b: [u8; 20], at: usize, src: &[u8]) -> [u8; 20]
-    requires { ⌜ at + length (now src) ≤ 20 ⌝ }
-    ensures { λ r. ⌜ (length r ≡ 20) × (r ≡ putAt b at (now (src .entry))) ⌝ }
-{
-    let mut q = b;
-    let to = at + src.len();
-    bytes::copy(src, &mut q[at..to]);
-    q
-}
-
 pub fn of_entry(key: &[u8], originator: &[u8]) -> Name
     requires { ⌜ FitsKey (now key) (now originator) ⌝ }
     ensures { λ r. ⌜ (take (r .len) (r .octets) ≡ now (key .entry) ++ now (originator .entry))
         × ((r .len ≡ length (now (key .entry)) + 4) × (length (r .octets) ≡ 20)) ⌝ }
 {
     let n = key.len();
-    let b = [0u8; 20];
-    let octets = put_in(put_in(b, 0, key), n, originator);
-    Name { octets, len: n + 4 }
+    let mut b = [0u8; 20];
+    octets::put(&mut b, 0, key);
+    octets::put(&mut b, n, originator);
+    Name {
+        octets: b,
+        len: n + 4,
+    }
 }
 
 // The name of the entry of a tag and a name: where the tag is not that of the name, the originator alone.

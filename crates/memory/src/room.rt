@@ -2,7 +2,6 @@
 ghost use mathlib.Core.Path.{_≡_};
 ghost use Prim.Native.Nat.{_+_, _≤_, _<_};
 ghost use lib.ListN.{length, getD, set};
-ghost use Rattle.laws.specs.Puts.{putAt};
 ghost use Rattle.protocol.specs.Fields.{octet, field2};
 ghost use Rattle.rules.specs.Requests as rules;
 ghost use Rattle.memory.specs.Layout.{requestSize, memorySize, listPlace, requestTagPlace, requestPlace};
@@ -68,7 +67,7 @@ pub fn asks(memory: &[u8], k: usize, i: usize, name: &[u8], t: u8) -> bool
 }
 
 // The octets of a room, and a tag and octets into a room.
-pub fn room_octets(memory: &[u8], k: usize, i: usize) -> [u8; 28]
+fn room_octets(memory: &[u8], k: usize, i: usize) -> [u8; 28]
     requires { ⌜ (k < 8) × ((i < 64) × (length (now memory) ≡ memorySize)) ⌝ }
     ensures { λ r. ⌜ (length r ≡ 28)
         × (requestOf (octet (now (memory .entry)) (requestTagPlace k i)) r ≡ getD (roomsIn (now (memory .entry)) k) i noRequest) ⌝ }
@@ -78,7 +77,7 @@ pub fn room_octets(memory: &[u8], k: usize, i: usize) -> [u8; 28]
     q
 }
 
-pub fn put_room(memory: &mut [u8], k: usize, i: usize, tag: u8, q: &[u8])
+fn put_room(memory: &mut [u8], k: usize, i: usize, tag: u8, q: &[u8])
     requires { ⌜ (k < 8) × ((i < 64) × ((length (now q) ≡ 28) × (length (now memory) ≡ memorySize))) ⌝ }
     ensures { λ _. ⌜ Listed k (field2 (now (memory .entry)) (listPlace k)) (set (roomsIn (now (memory .entry)) k) i (requestOf tag (now (q .entry))))
         (now (memory .entry)) (now (memory .exit)) ⌝ }
@@ -95,17 +94,6 @@ pub fn copy_request(memory: &mut [u8], k: usize, from: usize, to: usize)
     let tag = tag_at(memory, k, from);
     let q = room_octets(memory, k, from);
     put_room(memory, k, to, tag, &q)
-}
-
-// b with src in its place from at on.
-fn put_in(b: [u8; 28], at: usize, src: &[u8]) -> [u8; 28]
-    requires { ⌜ at + length (now src) ≤ 28 ⌝ }
-    ensures { λ r. ⌜ (length r ≡ 28) × (r ≡ putAt b at (now (src .entry))) ⌝ }
-{
-    let mut q = b;
-    let to = at + src.len();
-    bytes::copy(src, &mut q[at..to]);
-    q
 }
 
 // A room's octets with key length and number; the name is zero.
@@ -126,8 +114,9 @@ fn pack(name: &[u8], number: CsaNumber) -> [u8; 28]
     ensures { λ r. ⌜ (length r ≡ 28) × (requestOf (tagOf (now (name .entry))) r
         ≡ record { entry = entryNamed (now (name .entry)); number = number }) ⌝ }
 {
-    let b = head((name.len() - ID) as u8, numbers::bits_of(number));
-    put_in(b, NAME_PLACE, name)
+    let mut q = head((name.len() - ID) as u8, numbers::bits_of(number));
+    octets::put(&mut q, NAME_PLACE, name);
+    q
 }
 
 pub fn put_request(memory: &mut [u8], k: usize, i: usize, name: &[u8], t: u8, number: CsaNumber)

@@ -55,7 +55,7 @@ pub fn name_of(memory: &[u8], i: usize) -> &[u8]
     &memory[at..to]
 }
 
-pub fn payload_len(memory: &[u8], i: usize) -> usize
+fn payload_len(memory: &[u8], i: usize) -> usize
     requires { ⌜ (length (now memory) ≡ memorySize) × (i < rowsMost) ⌝ }
     ensures { λ r. ⌜ (r ≡ payloadLength (now (memory .entry)) i) × (r ≤ 32) ⌝ }
 {

@@ -29,7 +29,7 @@ use Rattle.slots.specs.declared.state.Server.{Server}
 use Rattle.slots.specs.declared.answers.Outcome.the-variants.{Taken}
 use Rattle.slots.specs.Codes.{codeNumber}
 use Rattle.slots.specs.State.{settingsOf}
-use Rattle.table.specs.Words.{slotIn}
+use Rattle.table.specs.Words.{slotIn, OthersStay}
 use Rattle.writer.specs.Write.{Wrote}
 use Rattle.actions.specs.Parts.{slotNow, Leaves, ActsAt}
 use Rattle.server.specs.declared.answers.Answer.{Answer}
@@ -104,4 +104,4 @@ Ups k slots slots′ before after =
     let x = slotNow slots k before in
     let y = upSlot x in
     Leaves k y (clearedIf (enters (x .link .alignment) (y .link .alignment)) k (rowsIn before)) before after (slotIn slots′ k)
-    × ((j : ℕ) → (j ≡ k → ⊥) → slotIn slots′ j ≡ slotIn slots j)
+    × OthersStay k slots slots′

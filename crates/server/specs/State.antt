@@ -22,7 +22,7 @@ use Rattle.slots.specs.declared.state.Slot.{Slot}
 use Rattle.slots.specs.declared.state.Server.{Server}
 use Rattle.slots.specs.Codes.{codeNumber}
 use Rattle.slots.specs.State.{settingsOf}
-use Rattle.table.specs.Words.{slotIn}
+use Rattle.table.specs.Words.{slotIn, OthersStay}
 use Rattle.actions.specs.Parts.{slotWith}
 use Rattle.server.specs.declared.answers.Answer.{Answer}
 
@@ -86,5 +86,5 @@ sweepsAt changes slots k x = changes || enters (slotIn slots k .link .alignment)
 -- the end of an event that put slot k into the table and no other, of a server whose slot k was in the state `from`
 abbrev pub Closes : Bool → Alignment → Server → List ℕ → ℕ → ℕ → List ℕ → List ℕ → Server → Type 0
 Closes changes from s slots k now before after r =
-    (old : List ℕ) → slotIn old k .link .alignment ≡ from → ((j : ℕ) → (j ≡ k → ⊥) → slotIn slots j ≡ slotIn old j)
+    (old : List ℕ) → slotIn old k .link .alignment ≡ from → OthersStay k old slots
     → serverOf r slots after ≡ ended (sweepsAt changes old k (slotIn slots k)) k now (slotWith (slotIn slots k) k before) (serverOf s old before)

@@ -92,10 +92,14 @@ slotIn t k = slotFrom (λ i. getD t (k * slotWords + i) 0)
 abbrev pub PutsWord : ℕ → ℕ → ℕ → List ℕ → List ℕ → Type 0
 PutsWord k n w before after = (j : ℕ) → slotIn after j ≡ on k (slotFrom (on n w (λ i. getD before (k * slotWords + i) 0))) (slotIn before) j
 
--- slot k is what f makes of it, whatever its part of the memory; the others are as they were
+-- all slots but k are as they were
+abbrev pub OthersStay : ℕ → List ℕ → List ℕ → Type 0
+OthersStay k before after = (j : ℕ) → (j ≡ k → ⊥) → slotIn after j ≡ slotIn before j
+
+-- slot k is what f makes of it, whatever its part of the memory
 pub record Changes (k : ℕ) (f : rules.Slot → rules.Slot) (before after : List ℕ) : Type 0 where
   pub slot : (qs : List Request) (kept : List ℕ) → slotOf (slotIn after k) qs kept ≡ f (slotOf (slotIn before k) qs kept)
-  pub others : (j : ℕ) → (j ≡ k → ⊥) → slotIn after j ≡ slotIn before j
+  pub others : OthersStay k before after
 
 -- one of the three numbers that a taken Hello records
 abbrev pub withHeard : ℕ → rules.Slot → rules.Slot

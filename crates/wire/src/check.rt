@@ -124,7 +124,7 @@ fn id_check(p: &[u8], c: usize) -> Checked
     and_then(sender, receiver)
 }
 
-pub fn head_check(k: Kind, p: &[u8]) -> Checked
+fn head_check(k: Kind, p: &[u8]) -> Checked
     ensures { λ r. ⌜ r ≡ definition.headCheck idLength k (now (p .entry)) ⌝ }
 {
     let c = common_at(k);

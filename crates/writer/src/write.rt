@@ -1,11 +1,14 @@
 // The five types of packet, each written into a lent slice: the records where they shall stand, then the head before them.
 ghost use mathlib.Core.Path.{_≡_};
+ghost use mathlib.Core.List.{[], _++_};
 ghost use Prim.Native.Nat.{_+_, _≤_, _<_};
 ghost use lib.ListN.{length};
 ghost use Rattle.laws.specs.Puts.{Put};
+ghost use Rattle.protocol.specs.declared.Kind.the-variants.{Ca, CsuRequest, CsuReply, Csus};
 ghost use Rattle.protocol.specs.Sizes.{idLength};
+ghost use Rattle.protocol.specs.Fields.{put4};
 ghost use Rattle.protocol.specs.Messages.{ca, csuRequest, csuReply, csus};
-ghost use Rattle.protocol.specs.Layouts.{recordOctets, packetOf};
+ghost use Rattle.protocol.specs.Layouts.{flagsField, recordOctets, packetOf};
 ghost use Rattle.writer.specs.Write.{namedRecord, helloMessage, receiverLength, commonPart, Wrote, Behind, FinishesWith};
 use crate::put::bit;
 use crate::put::ca_start;
@@ -31,7 +34,7 @@ pub struct Common {
     pub receiver: [u8; 4],
 }
 
-// A record at a position: the next one. Below the writers: asks for the room and for a name and a payload that fit a record.
+// A record at a position: the next one. Below the events: asks for the room and for a name and a payload that fit a record.
 pub fn put_record(
     out: &mut [u8],
     at: usize,
@@ -70,9 +73,11 @@ fn finish_csu(out: &mut [u8], k: Kind, c: Common, count: u16, n: usize)
     put_head(out, &start, &common, n);
 }
 
+// Records that were put there are a whole packet then; whatever else stands there is left, with the same head before it.
 pub fn finish_request(out: &mut [u8], c: Common, count: u16, n: usize)
     requires { ⌜ (28 ≤ n) × ((n < 65536) × (n ≤ length (now out))) ⌝ }
     ensures { λ _. ⌜ FinishesWith csuRequest c 28 count n (now (out .entry)) (now (out .exit)) ⌝ }
+    ensures octets { λ _. ⌜ Behind CsuRequest (commonPart c 0 idLength count) 28 n (now (out .entry)) (now (out .exit)) ⌝ }
 {
     finish_csu(out, Kind::CsuRequest, c, count, n);
 }
@@ -80,6 +85,7 @@ pub fn finish_request(out: &mut [u8], c: Common, count: u16, n: usize)
 pub fn finish_reply(out: &mut [u8], c: Common, count: u16, n: usize)
     requires { ⌜ (28 ≤ n) × ((n < 65536) × (n ≤ length (now out))) ⌝ }
     ensures { λ _. ⌜ FinishesWith csuReply c 28 count n (now (out .entry)) (now (out .exit)) ⌝ }
+    ensures octets { λ _. ⌜ Behind CsuReply (commonPart c 0 idLength count) 28 n (now (out .entry)) (now (out .exit)) ⌝ }
 {
     finish_csu(out, Kind::CsuReply, c, count, n);
 }
@@ -87,6 +93,7 @@ pub fn finish_reply(out: &mut [u8], c: Common, count: u16, n: usize)
 pub fn finish_csus(out: &mut [u8], c: Common, count: u16, n: usize)
     requires { ⌜ (28 ≤ n) × ((n < 65536) × (n ≤ length (now out))) ⌝ }
     ensures { λ _. ⌜ FinishesWith csus c 28 count n (now (out .entry)) (now (out .exit)) ⌝ }
+    ensures octets { λ _. ⌜ Behind Csus (commonPart c 0 idLength count) 28 n (now (out .entry)) (now (out .exit)) ⌝ }
 {
     finish_csu(out, Kind::Csus, c, count, n);
 }
@@ -95,6 +102,8 @@ pub fn finish_csus(out: &mut [u8], c: Common, count: u16, n: usize)
 pub fn finish_ca(out: &mut [u8], c: Common, number: CaNumber, flags: CaFlags, count: u16, n: usize)
     requires { ⌜ (32 ≤ n) × ((n < 65536) × (n ≤ length (now out))) ⌝ }
     ensures { λ _. ⌜ FinishesWith (ca number flags) c 32 count n (now (out .entry)) (now (out .exit)) ⌝ }
+    ensures octets { λ _. ⌜ Behind Ca (put4 (number .0) [] ++ commonPart c (flagsField flags) idLength count) 32 n (now (out .entry))
+        (now (out .exit)) ⌝ }
 {
     let start = ca_start(n as u16, number);
     let common = common_part(c, flags_of(flags), 4, count);
@@ -110,7 +119,7 @@ fn receiver_len(named: bool) -> u8
     0
 }
 
-// A Hello that names the receiver, or nobody: how many octets it has. Below the writers: asks for the room.
+// A Hello that names the receiver, or nobody: how many octets it has. Below the events: asks for the room.
 pub fn write_hello(out: &mut [u8], c: Common, interval: u16, factor: u16, named: bool) -> usize
     requires { ⌜ 36 ≤ length (now out) ⌝ }
     ensures { λ n. ⌜ Wrote (packetOf (helloMessage c interval factor named)) (now (out .entry)) (now (out .exit)) n ⌝ }

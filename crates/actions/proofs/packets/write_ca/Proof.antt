@@ -19,7 +19,7 @@ returns c =
     let f = at-finish-ca .finish-ca in
     let rs = rowsOf summaryRecord (rowsIn (a .memory .now)) (picksOf (a .picks)) in (
       finish-wrote (ca (a .number) (a .flags)) (a .c) 32 rs 32 (a .out .now) (q .last .1 .1 .1 .0) (f .last .0) (q .result) (q .ensures) (omega arith)
-          (start .pre .0 .1) (f .ensures),
+          (start .pre .0 .1) (f .ensures .0),
       places-within 32 rs 32 (a .out .now) (q .last .1 .1 .1 .0) (q .result) (q .ensures) (omega arith) .1,
     )
 

@@ -18,7 +18,7 @@ returns c =
     let q = at-first-requests .first-requests in
     let f = at-finish-csus .finish-csus in
     finish-wrote csus (a .c) 32 (map requestRecord (take 4 (requestsIn (a .memory .now) (a .k)))) 28 (a .out .now) (q .last .1 .1 .0) (f .last .0)
-    (q .result) (q .ensures) (omega arith) (start .pre .1 .1) (f .ensures)
+    (q .result) (q .ensures) (omega arith) (start .pre .1 .1) (f .ensures .0)
 
 pub write-csus-spec : {M : Type 1} → statement M
 write-csus-spec =

@@ -14,7 +14,7 @@ returns-2 c =
     let start = at-if1 .before .before in
     let a = start .args in
     let f = at-finish-reply .finish-reply in
-    some-written csuReply (a .c) (a .count) (a .n) (a .out .now) (f .last .0) (at-if1 .if1 .left) (f .ensures)
+    some-written csuReply (a .c) (a .count) (a .n) (a .out .now) (f .last .0) (at-if1 .if1 .left) (f .ensures .0)
 
 pub write-reply-spec : {M : Type 1} → statement M
 write-reply-spec =

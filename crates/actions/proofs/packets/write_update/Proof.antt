@@ -18,7 +18,7 @@ returns c =
     let q = at-picked .picked in
     let f = at-finish-request .finish-request in
     finish-wrote csuRequest (a .c) 64 (rowsOf heldRecord (rowsIn (a .memory .now)) (picksOf (a .picks))) 28 (a .out .now) (q .last .1 .1 .1 .0) (f .last .0)
-    (q .result) (q .ensures) (omega arith) (start .pre .0 .1) (f .ensures)
+    (q .result) (q .ensures) (omega arith) (start .pre .0 .1) (f .ensures .0)
 
 pub write-update-spec : {M : Type 1} → statement M
 write-update-spec =

@@ -1,13 +1,14 @@
 -- The start and the common part are a head of 32 octets, so what stands behind it is a packet; it is the message's.
 -- Assumes nothing.
 use Rattle.writer.proofs.Heads.{behind, common-whole, finishes-ca}
-use Rattle.writer.specs.Write.{commonPart}
+use Rattle.writer.specs.Write.{commonPart, Behind}
 use Rattle.protocol.specs.Fields.{put4}
 use Rattle.protocol.specs.declared.Kind.the-variants.{Ca}
 use native.Mathlib.Omega.{arith}
 use mathlib.Core.List.{[], _++_}
 use lib.ListN.{length}
-use mathlib.Core.Path.{_≡_, ap}
+use Prim.Native.Nat.{ℕ}
+use mathlib.Core.Path.{_≡_, ap, subst}
 use borrow.Author.Needs.{needs}
 use Rattle.writer.proofs.write.finish_ca.Statement.{statement}
 use Rattle.writer.proofs.write.finish_ca.Tie as tie
@@ -32,10 +33,14 @@ returns c =
     let f = at-ca-start .ca-start in
     let x = at-flags-of .flags-of in
     let m = at-common-part .common-part in
-    finishes-ca (a .c) (widths (start-2)) (a .number) (a .flags) (x .ensures)
-    (behind Ca (put4 (a .number .0) [] ++ commonPart (a .c) (x .result) 4 (a .count)) (f .result) (m .result) 32 (a .n)
-    (λ i. f .ensures i ++ common-whole (a .c) (widths (start-2)) (x .result) (a .count) (m .ensures) i)
-    (omega (arith, start at-ca-start, common at-common-part)) (at-put-head .put-head .ensures))
+    let b =
+    behind Ca (put4 (a .number .0) [] ++ commonPart (a .c) (x .result) 4 (a .count)) (f .result) (m .result) 32 (a .n)
+    (λ i. f .ensures i ++ common-whole (a .c) (widths start-2) (x .result) (a .count) (m .ensures) i)
+    (omega (arith, start at-ca-start, common at-common-part)) (at-put-head .put-head .ensures) in (
+      finishes-ca (a .c) (widths start-2) (a .number) (a .flags) (x .ensures) b,
+      subst (λ (g : ℕ). Behind Ca (put4 (a .number .0) [] ++ commonPart (a .c) g 4 (a .count)) 32 (a .n) (a .out .now) (at-put-head .put-head .last .0))
+          (x .ensures) b,
+    )
 
 pub finish-ca-spec : {M : Type 1} → statement M
 finish-ca-spec =

@@ -29,7 +29,7 @@ returns c =
     let f = at-fixed-part .fixed-part in
     let m = at-common-part .common-part in
     behind (a .k) (commonPart (a .c) 0 4 (a .count)) (f .result) (m .result) 28 (a .n)
-    (λ i. f .ensures i ++ common-whole (a .c) (widths (start-2)) 0 (a .count) (m .ensures) i) (omega (arith, start at-fixed-part, common at-common-part))
+    (λ i. f .ensures i ++ common-whole (a .c) (widths start-2) 0 (a .count) (m .ensures) i) (omega (arith, start at-fixed-part, common at-common-part))
     (at-put-head .put-head .ensures)
 
 pub finish-csu-spec : {M : Type 1} → statement M

@@ -9,8 +9,11 @@ widths : (c : tie.Start) → (length (c .args .c .sender) ≡ 4) × (length (c .
 widths c = search needs
 
 returns : tie.Need-returns
-returns c = finishes-csus (c .before .before .before .before .before .args .c) (widths (c .before .before .before .before .before))
-    (c .before .before .finish-csu .ensures)
+returns c =
+    let at-finish-csu = c .before .before in
+    let start = at-finish-csu .before .before .before in
+    let b = at-finish-csu .finish-csu .ensures in
+    (finishes-csus (start .args .c) (widths start) b, b)
 
 pub finish-csus-spec : {M : Type 1} → statement M
 finish-csus-spec = tie.close (tie.spec (λ c κs. search needs) (λ c. search needs) returns)
