@@ -16,7 +16,7 @@ use Rattle.rules.specs.Links.{hearsPeer}
 use Rattle.rules.specs.Rows.{behind, nextWaiting, rowsOf}
 use Rattle.rules.specs.Requests.{rotated}
 use Rattle.rules.specs.Alignment.{summaryRecord}
-use Rattle.rules.specs.Slots.{helloSent, caSent, csusSent, updateSent, withCursor}
+use Rattle.rules.specs.Slots.{helloSent, caSent, csusSent, updateSent, withCursor, updateCounted}
 use Rattle.rules.specs.Sent.{octetsOf}
 use Rattle.rules.specs.Poll as poll
 use Rattle.rules.specs.Poll.{helloOf, firstFlags, firstCaOf, requestRecord, csusOf, heldRecord, updateOf, dueSlot, dueSent}
@@ -129,13 +129,13 @@ module _ (d : Due) (time : ℕ) (p : Picks) (k : ℕ) (t t′ : List ℕ) where
   pub put-csus : d ≡ Csus → Changes k (csusSent time) t t′ → PutsDue (dueKind d) time p k t t′
   put-csus q h = put-as Csus q (record { slot = λ s rows j qs kept n. h .slot (rotated qs) kept; others = h .others })
 
-  pub put-update : d ≡ Update → Changes k (λ x. updateSent time (withCursor (p .next % rowsMost) x)) t t′ → PutsDue (dueKind d) time p k t t′
+  pub put-update : d ≡ Update → Changes k (λ x. updateCounted (updateSent time (withCursor (p .next % rowsMost) x))) t t′ → PutsDue (dueKind d) time p k t t′
   put-update q h =
       put-as Update q
       (record {
         slot =
             λ s rows j qs kept n. h .slot qs kept
-            ∙ ap (λ (c : ℕ). updateSent time (withCursor (c % rowsMost) (slotOf (slotIn t k) qs kept))) (n refl);
+            ∙ ap (λ (c : ℕ). updateCounted (updateSent time (withCursor (c % rowsMost) (slotOf (slotIn t k) qs kept)))) (n refl);
         others = h .others;
       })
 

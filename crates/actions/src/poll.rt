@@ -3,7 +3,7 @@ ghost use mathlib.Core.Path.{_≡_};
 ghost use mathlib.Core.List.{List};
 ghost use Rattle.protocol.specs.Layouts.{packetOf};
 ghost use Rattle.rules.specs.Rows.{nextWaiting};
-ghost use Rattle.rules.specs.Slots.{withCursor, updateSent};
+ghost use Rattle.rules.specs.Slots.{withCursor, updateSent, updateCounted};
 ghost use Rattle.memory.specs.Marks.{Picked};
 ghost use Prim.Native.Nat.{ℕ, _%_, _≤_, _<_};
 ghost use lib.ListN.{length};
@@ -122,10 +122,12 @@ fn write_due(
 
 fn put_update(slots: &mut [usize], k: usize, time: u32, picks: Picks)
     requires { ⌜ (length (now slots) ≡ tableSize) × (k < 8) ⌝ }
-    ensures { λ _. ⌜ Changes k (λ x. updateSent time (withCursor (picks .next % 64) x)) (now (slots .entry)) (now (slots .exit)) ⌝ }
+    ensures { λ _. ⌜ Changes k (λ x. updateCounted (updateSent time (withCursor (picks .next % 64) x))) (now (slots .entry)) (now (slots .exit)) ⌝ }
 {
     fields::put_cursor(slots, k, (picks.next % 64) as u32);
     fields::put_update_sent(slots, k, time);
+    let n = fields::updates_at(slots, k);
+    fields::put_updates(slots, k, numbers::one_more(n));
 }
 
 // The slot after it.

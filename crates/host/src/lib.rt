@@ -3,7 +3,7 @@ ghost use mathlib.Core.Path.{_≡_};
 ghost use Rattle.host.specs.Host.{usedAfter};
 use lines::run;
 
-fn run_in(slots: &mut [usize; 192], memory: &mut [u8; 21504], input: &[u8]) -> u32
+fn run_in(slots: &mut [usize; 200], memory: &mut [u8; 21504], input: &[u8]) -> u32
     ensures { λ r. ⌜ r ≡ usedAfter (now (input .entry)) ⌝ }
 {
     let a = run::run(slots, memory, input);
@@ -19,7 +19,7 @@ fn run_in(slots: &mut [usize; 192], memory: &mut [u8; 21504], input: &[u8]) -> u
 pub extern "C" fn wemelstuif_run(input: &[u8]) -> u32
     ensures { λ r. ⌜ r ≡ usedAfter (now (input .entry)) ⌝ }
 {
-    let mut slots = [0usize; 192];
+    let mut slots = [0usize; 200];
     let mut memory = [0u8; 21504];
     run_in(&mut slots, &mut memory, input)
 }

@@ -8,7 +8,7 @@ fn print(text: &[u8; 20480], n: usize) {
 
 // One input, its first record and one chunk behind it.
 fn replay(
-    slots: &mut [usize; 192],
+    slots: &mut [usize; 200],
     memory: &mut [u8; 21504],
     input: &[u8],
     text: &mut [u8; 20480],
@@ -33,7 +33,7 @@ fn read(space: &mut [u8], n: usize) -> usize {
 }
 
 fn main() {
-    let mut slots = [0usize; 192];
+    let mut slots = [0usize; 200];
     let mut memory = [0u8; 21504];
     let mut text = [0u8; 20480];
     let mut space = [0u8; SPACE];

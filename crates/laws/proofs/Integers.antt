@@ -7,7 +7,7 @@ use native.Mathlib.Omega.{arith}
 use lib.IntN.{ℤ, pos, negsuc, sucℤ}
 use lib.Signed.{ltZ, leZ, _≤ℤ_}
 use lib.Dec.{T, ltb, leb→le, le→leb}
-use borrow.Author.Tests.{ltb-true, ltb-false, leb-false, lt-ltb}
+use borrow.Author.Tests.{ltb-true, ltb-false, leb-false, lt-ltb, le-ltb}
 use mir.Syntax.{w32}
 use mir.Val.{SFits, toZ, sel}
 
@@ -35,6 +35,10 @@ not-le (pos a) (pos b) e = lt-ltb b a (leb-false a b e)
 not-le (pos a) (negsuc b) e = refl
 not-le (negsuc a) (pos b) e = absurd (false≢true (sym e))
 not-le (negsuc a) (negsuc b) e = lt-ltb a b (leb-false b a e)
+
+pub not-less-same : (a : ℤ) → ltZ a a ≡ false
+not-less-same (pos a) = le-ltb a a (omega arith)
+not-less-same (negsuc a) = le-ltb a a (omega arith)
 
 -- ---- the next one
 pub lt-suc : (n : ℤ) → ltZ n (sucℤ n) ≡ true

@@ -4,6 +4,7 @@ pub mod Lists
 pub mod Perms
 pub mod Tables
 pub mod Cells
+pub mod Tallies
 pub mod Puts
 pub mod Each
 pub mod Frames

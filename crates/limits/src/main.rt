@@ -1,5 +1,5 @@
-// What no replay file shows, by the functions that a host calls: code 3, for an out buffer under 284 octets, and the missed count, which stops
-// at 65535. Prints a line for each code, and for the missed count as it nears its end.
+// What no short list shows, by the functions that a host calls: code 3, for an out buffer under 284 octets, the missed count and the count of
+// update requests, which stop at 65535. Prints a line for each code, and for each count as it nears its end.
 ghost use mathlib.Core.Path.{_≡_};
 ghost use Prim.Native.Nat.{_+_, _≤_};
 ghost use lib.ListN.{length};
@@ -8,6 +8,9 @@ use protocol::CaNumber;
 use protocol::CsaNumber;
 use server::answers::Answer;
 use server::events;
+use server::queries;
+use server::queries::Status;
+use slots::answers::Outcome;
 use slots::state::Server;
 use slots::state::Settings;
 use writer::write;
@@ -89,12 +92,12 @@ fn write_ca(out: &mut [u8], n: u32) -> usize
 }
 
 // ---- the server's part
-fn start(slots: &mut [usize; 192], memory: &mut [u8; 21504]) -> Server {
+fn start(slots: &mut [usize; 200], memory: &mut [u8; 21504], interval: u16) -> Server {
     let settings = Settings {
         id: [10, 0, 0, 2],
         protocol: 2,
         group: 7,
-        interval: 10,
+        interval,
         factor: 3,
     };
     let a = events::start(settings, slots, memory);
@@ -106,7 +109,7 @@ fn start(slots: &mut [usize; 192], memory: &mut [u8; 21504]) -> Server {
 // A poll and a Hello of the peer.
 fn poll_and_hello(
     s: Server,
-    slots: &mut [usize; 192],
+    slots: &mut [usize; 200],
     memory: &mut [u8; 21504],
     out: &mut [u8],
 ) -> Server {
@@ -120,14 +123,14 @@ fn poll_and_hello(
 }
 
 // With 283 octets of room, then with 284.
-fn short_out(s: Server, slots: &mut [usize; 192], memory: &mut [u8; 21504]) -> Server {
+fn short_out(s: Server, slots: &mut [usize; 200], memory: &mut [u8; 21504]) -> Server {
     let mut less = [0u8; 283];
     let mut out = [0u8; 284];
     let t = poll_and_hello(s, slots, memory, &mut less);
     poll_and_hello(t, slots, memory, &mut out)
 }
 
-fn take_ca(s: Server, slots: &mut [usize; 192], memory: &mut [u8; 21504], n: u32) -> Server {
+fn take_ca(s: Server, slots: &mut [usize; 200], memory: &mut [u8; 21504], n: u32) -> Server {
     let mut out = [0u8; 284];
     let mut ca = [0u8; 284];
     let len = write_ca(&mut ca, n);
@@ -136,26 +139,96 @@ fn take_ca(s: Server, slots: &mut [usize; 192], memory: &mut [u8; 21504], n: u32
 }
 
 // 64 requests fill the list with 16 CAs; each CA behind them misses four more.
-fn missed(s: Server, slots: &mut [usize; 192], memory: &mut [u8; 21504]) {
+fn missed(s: Server, slots: &mut [usize; 200], memory: &mut [u8; 21504]) {
     let mut x = s;
     let mut n: u32 = 0;
     while n < 16403 {
         x = take_ca(x, slots, memory, n);
         if n == 16 {
-            print(server::queries::requests_of(memory, 0) as u64);
-            print(server::queries::missed_of(slots, 0) as u64);
+            print(queries::requests_of(memory, 0) as u64);
+            print(queries::missed_of(slots, 0) as u64);
         }
         if 16398 <= n {
-            print(server::queries::missed_of(slots, 0) as u64);
+            print(queries::missed_of(slots, 0) as u64);
         }
         n += 1;
     }
 }
 
+// ---- the count of update requests
+// Of a slot, or the code that the query refuses with.
+fn print_updates(slots: &[usize; 200], slot: usize) {
+    match queries::status_of(slots, slot) {
+        Status::Refused(f) => print(slots::answers::code(Outcome::Refused(f)) as u64),
+        Status::Shown(x) => print(x.updates as u64),
+    }
+}
+
+// A Hello of the peer that is alive for as long as a Hello can be.
+fn take_hello(s: Server, slots: &mut [usize; 200], memory: &mut [u8; 21504], time: u32) -> Server {
+    let mut out = [0u8; 284];
+    let mut hello = [0u8; 284];
+    let n = write::write_hello(&mut hello, common(), 65535, 65535, true);
+    let a = events::packet(s, slots, memory, 0, time, packet_of(&hello, n), &mut out);
+    a.server
+}
+
+// The master's second CA, with O clear and no summaries: the slot is Aligned.
+fn take_last_ca(s: Server, slots: &mut [usize; 200], memory: &mut [u8; 21504]) -> Server {
+    let mut out = [0u8; 284];
+    let mut ca = [0u8; 284];
+    let flags = CaFlags {
+        master: true,
+        initial: false,
+        more: false,
+    };
+    write::finish_ca(&mut ca, common(), CaNumber(1), flags, 0, 32);
+    let a = events::packet(s, slots, memory, 0, 0, packet_of(&ca, 32), &mut out);
+    a.server
+}
+
+fn poll_at(s: Server, slots: &mut [usize; 200], memory: &mut [u8; 21504], time: u32) -> Server {
+    let mut out = [0u8; 284];
+    let a = events::poll(s, slots, memory, 0, time, &mut out);
+    a.server
+}
+
+// An entry waits, and is never acknowledged: a poll every second writes an update request, but where our Hello is due, at 0 and at 65535.
+fn poll_often(s: Server, slots: &mut [usize; 200], memory: &mut [u8; 21504]) -> Server {
+    let mut x = s;
+    let mut time: u32 = 0;
+    while time < 65539 {
+        x = poll_at(x, slots, memory, time);
+        if 65533 <= time {
+            print_updates(slots, 0);
+        }
+        time += 1;
+    }
+    x
+}
+
+// Then link down, which leaves the count, and a new Negotiate, which ends it; and a slot with no peer.
+fn updates(slots: &mut [usize; 200], memory: &mut [u8; 21504]) {
+    let s = start(slots, memory, 65535);
+    let a = take_hello(s, slots, memory, 0);
+    let b = take_ca(a, slots, memory, 0);
+    let c = take_last_ca(b, slots, memory);
+    let d = events::set(c, slots, memory, &[65u8], &[120u8]);
+    let e = poll_often(d.server, slots, memory);
+    let f = events::link_down(e, slots, memory, 0, 65539);
+    print_updates(slots, 0);
+    let g = events::link_up(f.server, slots, memory, 0, 65539);
+    print_updates(slots, 0);
+    take_hello(g.server, slots, memory, 65539);
+    print_updates(slots, 0);
+    print_updates(slots, 1);
+}
+
 fn main() {
-    let mut slots = [0usize; 192];
+    let mut slots = [0usize; 200];
     let mut memory = [0u8; 21504];
-    let s = start(&mut slots, &mut memory);
+    let s = start(&mut slots, &mut memory, 10);
     let t = short_out(s, &mut slots, &mut memory);
     missed(t, &mut slots, &mut memory);
+    updates(&mut slots, &mut memory);
 }

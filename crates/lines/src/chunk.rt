@@ -70,7 +70,7 @@ fn put_cut(text: &mut [u8], at: usize, wanted: bool) -> usize
 }
 
 fn open_in(
-    slots: &mut [usize; 192],
+    slots: &mut [usize; 200],
     memory: &mut [u8; 21504],
     input: &[u8],
     text: &mut [u8],
@@ -91,7 +91,7 @@ fn open_in(
 
 // The first record and its line; `cut` where it is not accepted settings.
 pub fn open(
-    slots: &mut [usize; 192],
+    slots: &mut [usize; 200],
     memory: &mut [u8; 21504],
     input: &[u8],
     text: &mut [u8; 20480],
@@ -105,7 +105,7 @@ pub fn open(
 // One record and its line.
 fn one(
     s: Server,
-    slots: &mut [usize; 192],
+    slots: &mut [usize; 200],
     memory: &mut [u8; 21504],
     r: &[u8],
     out: &mut [u8; 284],
@@ -149,7 +149,7 @@ fn ends_short(last: bool, len: usize, at: usize) -> bool
 
 fn replay_in(
     s: Server,
-    slots: &mut [usize; 192],
+    slots: &mut [usize; 200],
     memory: &mut [u8; 21504],
     input: &[u8],
     last: bool,
@@ -195,7 +195,7 @@ fn replay_in(
 // The whole records of a chunk behind the first record, at most 224 of them, and their lines. `last`: the input ends with it.
 pub fn replay(
     s: Server,
-    slots: &mut [usize; 192],
+    slots: &mut [usize; 200],
     memory: &mut [u8; 21504],
     input: &[u8],
     last: bool,

@@ -8,7 +8,7 @@ use server::answers::Answer;
 use slots::state::Server;
 
 // The records behind the first, each taken by the server that the last one left.
-fn run_from(s: Server, slots: &mut [usize; 192], memory: &mut [u8; 21504], input: &[u8]) -> Server
+fn run_from(s: Server, slots: &mut [usize; 200], memory: &mut [u8; 21504], input: &[u8]) -> Server
     requires { ⌜ 292 ≤ length (now input) ⌝ }
     ensures { λ r. ⌜ RunsFrom s (now (slots .entry)) (now (slots .exit)) (now (memory .entry)) (now (memory .exit)) (now (input .entry)) r ⌝ }
 {
@@ -26,7 +26,7 @@ fn run_from(s: Server, slots: &mut [usize; 192], memory: &mut [u8; 21504], input
 }
 
 // Demand 3 of the server, slots and memory that any slice leaves.
-pub fn run(slots: &mut [usize; 192], memory: &mut [u8; 21504], input: &[u8]) -> Answer
+pub fn run(slots: &mut [usize; 200], memory: &mut [u8; 21504], input: &[u8]) -> Answer
     ensures { λ r. ⌜ Runs (now (input .entry)) (now (slots .entry)) (now (slots .exit)) (now (memory .entry)) (now (memory .exit)) r ⌝ }
 {
     let first = take::begin(slots, memory, input);

@@ -29,7 +29,7 @@ fn no_settings() -> Settings
 }
 
 // The first record: a server, if it is a whole record of settings that are accepted.
-pub fn begin(slots: &mut [usize; 192], memory: &mut [u8; 21504], r: &[u8]) -> Answer
+pub fn begin(slots: &mut [usize; 200], memory: &mut [u8; 21504], r: &[u8]) -> Answer
     ensures { λ x. ⌜ Begins (now (r .entry)) (now (slots .entry)) (now (slots .exit)) (now (memory .entry)) (now (memory .exit)) x ⌝ }
 {
     if r.len() < 292 {
@@ -42,7 +42,7 @@ pub fn begin(slots: &mut [usize; 192], memory: &mut [u8; 21504], r: &[u8]) -> An
 }
 
 // A record of an event that writes nothing and has no time, or of none.
-fn take_own(s: Server, slots: &mut [usize; 192], memory: &mut [u8; 21504], r: &[u8]) -> Answer
+fn take_own(s: Server, slots: &mut [usize; 200], memory: &mut [u8; 21504], r: &[u8]) -> Answer
     ensures { λ x. ⌜ ((out : List ℕ) → Untimed (now (r .entry)) → Takes (replay.recordKind (now (r .entry))) s (now (slots .entry)) (now (slots .exit))
         (now (memory .entry)) (now (memory .exit)) out out x) ⌝ }
 {
@@ -64,7 +64,7 @@ fn take_own(s: Server, slots: &mut [usize; 192], memory: &mut [u8; 21504], r: &[
 
 fn packet_in(
     s: Server,
-    slots: &mut [usize; 192],
+    slots: &mut [usize; 200],
     memory: &mut [u8; 21504],
     r: &[u8],
     out: &mut [u8],
@@ -86,7 +86,7 @@ fn packet_in(
 
 fn poll_in(
     s: Server,
-    slots: &mut [usize; 192],
+    slots: &mut [usize; 200],
     memory: &mut [u8; 21504],
     r: &[u8],
     out: &mut [u8],
@@ -101,7 +101,7 @@ fn poll_in(
 // A later record.
 pub fn take(
     s: Server,
-    slots: &mut [usize; 192],
+    slots: &mut [usize; 200],
     memory: &mut [u8; 21504],
     r: &[u8],
     out: &mut [u8; 284],

@@ -26,7 +26,7 @@ fn digit(d: u64) -> u8
 }
 
 // The same: nearly every number of a line is short.
-fn put_number(text: &mut [u8], at: usize, n: u64, behind: u8) -> usize
+pub fn put_number(text: &mut [u8], at: usize, n: u64, behind: u8) -> usize
     requires { ⌜ at + 21 ≤ length (now text) ⌝ }
     ensures { λ r. ⌜ PutsNumber n behind at (now (text .entry)) (now (text .exit)) r ⌝ }
     ensures most { λ r. ⌜ r ≤ at + 21 ⌝ }

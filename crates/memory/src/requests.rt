@@ -2,10 +2,8 @@
 ghost use mathlib.Core.Path.{_≡_};
 ghost use mathlib.Core.Bool.{true, false};
 ghost use mathlib.Core.List.{[], _++_};
-ghost use Prim.Native.Nat.{suc, _+_, _≤_, _<_};
-ghost use lib.Dec.{ltb};
+ghost use Prim.Native.Nat.{_+_, _≤_, _<_};
 ghost use lib.ListN.{length, getD, set};
-ghost use Rattle.laws.specs.Choice.{pick};
 ghost use Rattle.laws.specs.Tables.{has, without};
 ghost use Rattle.protocol.specs.Fields.{field2};
 ghost use Rattle.rules.specs.Requests as rules;
@@ -115,15 +113,6 @@ fn append(memory: &mut [u8], k: usize, n: usize, name: &[u8], t: u8, number: Csa
     set_count(memory, k, n + 1)
 }
 
-fn one_more(missed: u16) -> u16
-    ensures { λ r. ⌜ r ≡ pick (ltb missed 65535) (suc missed) missed ⌝ }
-{
-    if missed < 65535 {
-        return missed + 1;
-    }
-    missed
-}
-
 // An entry wanted: one request an entry, in its first place, with the largest number. The number of those that found no room.
 pub fn join(memory: &mut [u8], k: usize, name: &[u8], number: CsaNumber, missed: u16) -> u16
     requires { ⌜ (k < 8) × (FitsName (now name) × (length (now memory) ≡ memorySize)) ⌝ }
@@ -140,7 +129,7 @@ pub fn join(memory: &mut [u8], k: usize, name: &[u8], number: CsaNumber, missed:
         append(memory, k, n, name, t, number);
         return missed;
     }
-    one_more(missed)
+    numbers::one_more(missed)
 }
 
 // ---- requests go

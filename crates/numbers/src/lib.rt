@@ -1,4 +1,4 @@
-// CA numbers and CSA numbers, and the checksum.
+// CA numbers, CSA numbers and counts, and the checksum.
 pub mod sum;
 
 ghost use mathlib.Core.Path.{_≡_};
@@ -44,6 +44,16 @@ pub fn next_csa(n: CsaNumber) -> Step
         return Step::Spent;
     }
     Step::Number(CsaNumber(x + 1))
+}
+
+// One more, of a count that stops at 65535.
+pub fn one_more(n: u16) -> u16
+    ensures { λ r. ⌜ r ≡ definition.oneMore n ⌝ }
+{
+    if n < 65535 {
+        return n + 1;
+    }
+    n
 }
 
 // The number after a CA number.

@@ -1,7 +1,8 @@
--- Document 01, 'Packet layouts' and 'Updates': CA numbers and CSA numbers.
+-- Document 01, 'Packet layouts' and 'Updates': CA numbers and CSA numbers, and counts.
 -- Assumes nothing.
-use Prim.Native.Nat.{ℕ, _+_, _%_}
+use Prim.Native.Nat.{ℕ, suc, _+_, _%_}
 use mathlib.Core.Bool.{Bool}
+use lib.Dec.{ltb}
 use lib.IntN.{ℤ, pos, negsuc, _+ℤ_}
 use lib.Signed.{ltZ, leZ}
 use mir.Syntax.{w32}
@@ -44,6 +45,10 @@ purged = csaNumber (pos 2147483647)
 -- a is newer than b: 'its number is greater as a signed number'
 abbrev pub newer : CsaNumber → CsaNumber → Bool
 newer a b = ltZ (b .0) (a .0)
+
+-- one more, of a count that 'stops at 65535'
+abbrev pub oneMore : ℕ → ℕ
+oneMore n = pick (ltb n 65535) (suc n) n
 
 -- 'number spent': '2147483646 or more'
 abbrev pub spent : CsaNumber → Bool

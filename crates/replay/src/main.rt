@@ -12,7 +12,7 @@ fn print(text: &[u8; 20480], n: usize) {
 // The records behind the first, a chunk at a time: the input ends where it does not fill the space for a chunk.
 fn rest(
     s: Server,
-    slots: &mut [usize; 192],
+    slots: &mut [usize; 200],
     memory: &mut [u8; 21504],
     input: &mut [u8],
     text: &mut [u8; 20480],
@@ -43,7 +43,7 @@ fn rest(
 }
 
 fn main() {
-    let mut slots = [0usize; 192];
+    let mut slots = [0usize; 200];
     let mut memory = [0u8; 21504];
     let mut text = [0u8; 20480];
     let mut input = [0u8; 292];

@@ -36,7 +36,8 @@ use Rattle.rules.specs.Poll as polls
 use Rattle.rules.specs.Refusals.{pollCode}
 use Rattle.rules.specs.Events.{Event, addPeer, linkUp, linkDown, packet, poll, set, withdraw, purge, counts, codeOf, liveIn, readSlot, slotAfter}
 use Rattle.rules.specs.Events.{acted, serverIf, sentIf, step, writtenAt}
-use Rattle.rules.specs.Demand3.{isPollOf, isRequestType, requestRecords}
+use Rattle.rules.specs.SlotHistory.{isRequestType}
+use Rattle.rules.specs.Demand3.{isPollOf, requestRecords}
 use Rattle.rules.proofs.Relation.{Inv}
 use Rattle.rules.proofs.RequestBack.{not-hello, not-ca, not-csus}
 use Rattle.rules.proofs.Kept.{KeepsCa, KeptCa, no-request, kept-checked}
@@ -49,7 +50,7 @@ pub data CursorStep (rows : List Row) (k c c′ : ℕ) (polled : Bool) (written 
       → CursorStep rows k c c′ polled written
 
 -- ---- a live state is not entered from Down or Negotiate
-not-entered : (a b : Alignment) → isLive b ≡ true → enters a b ≡ false
+pub not-entered : (a b : Alignment) → isLive b ≡ true → enters a b ≡ false
 not-entered a Down h = absurd (false≢true h)
 not-entered a Negotiate h = absurd (false≢true h)
 not-entered Down (Summarize r) h = refl

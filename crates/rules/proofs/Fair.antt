@@ -23,7 +23,8 @@ use Rattle.rules.specs.Poll.{heldRecord}
 use Rattle.rules.specs.Events.{Event, step, writtenAt, Item, itemOf, items, liveIn}
 use Rattle.rules.specs.History as history
 use Rattle.rules.specs.History.{History, add}
-use Rattle.rules.specs.Demand3.{isPollOf, isRequestType, requestRecords, isUpdateTo, isUpdateOf, WaitsThrough}
+use Rattle.rules.specs.SlotHistory.{isRequestType}
+use Rattle.rules.specs.Demand3.{isPollOf, requestRecords, isUpdateTo, isUpdateOf, WaitsThrough}
 use Rattle.rules.proofs.Relation.{Inv, Rel}
 use Rattle.rules.proofs.Invariant.{inv-step}
 use Rattle.rules.proofs.RelStep.{rel-step}

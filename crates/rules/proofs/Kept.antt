@@ -34,8 +34,7 @@ use Rattle.rules.specs.Poll.{Due, nothingDue, aHello, firstCa, keptCa, a
 use Rattle.rules.specs.Refusals.{unusable}
 use Rattle.rules.specs.Events.{Event, addPeer, linkUp, linkDown, packet, poll, set, withdraw, purge, counts, codeOf, Place, inSlot, nowhere}
 use Rattle.rules.specs.Events.{placeOf, liveIn, readSlot, slotAfter, slotsAfter, acted, serverIf, step, run}
-use Rattle.rules.specs.SlotHistory.{isCa}
-use Rattle.rules.specs.Demand3.{isRequestType}
+use Rattle.rules.specs.SlotHistory.{isCa, isRequestType}
 use Rattle.rules.proofs.CodeTold.{message-told}
 use Rattle.rules.proofs.PastLaws.{moved-link}
 

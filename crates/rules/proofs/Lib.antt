@@ -17,6 +17,7 @@ pub mod Entries
 pub mod RowSim
 pub mod RowChanges
 pub mod RowActs
+pub mod UpdateCounts
 pub mod RelStep
 pub mod Waits
 pub mod NextLaws
@@ -37,3 +38,6 @@ pub mod TypedSlots
 pub mod TypedPeer
 pub mod TypedRun
 pub mod WrittenPacket
+pub mod Drain
+pub mod Rounds
+pub mod Drained

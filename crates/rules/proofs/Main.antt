@@ -31,5 +31,6 @@ demand-3 c accepted es =
       waits = waits (s .rows) (h .entries) (r .rows);
       sent = sent s h c v r k;
       fair = fair c s h v r k;
+      updates = r .updates;
       others = others s;
     }

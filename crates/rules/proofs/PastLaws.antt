@@ -142,7 +142,7 @@ completed-link x = ap (λ a. withAlignment a (x .link)) (aligned-past (isEmpty (
 pub seen-at : (slots : List Slot) (k : ℕ) → slotHistoryAt (map seenOf slots) k ≡ seenOf (getD slots k freshSlot)
 seen-at slots k = List·getD-map seenOf slots k freshSlot
 
-state-at : (slots : List Slot) (k : ℕ) → stateAt (map seenOf slots) k ≡ pastAs (alignmentAt slots k)
+pub state-at : (slots : List Slot) (k : ℕ) → stateAt (map seenOf slots) k ≡ pastAs (alignmentAt slots k)
 state-at slots k = ap (λ (x : SlotHistory). x .link .alignment) (seen-at slots k)
 
 -- it sees the slots that puts go to, and the entering of Down or Negotiate

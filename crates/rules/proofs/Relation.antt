@@ -19,7 +19,7 @@ use Rattle.rules.specs.Rows.{toFree}
 use Rattle.rules.specs.Events.{liveIn}
 use Rattle.rules.specs.SlotHistory.{SlotHistory}
 use Rattle.rules.specs.History.{Known, History}
-use Rattle.rules.specs.Demand3.{rowOf, Once}
+use Rattle.rules.specs.Demand3.{rowOf, Once, cutOff}
 
 -- a row waits for live slots only
 abbrev pub Alive : (ℕ → Bool) → Row → Type 0
@@ -82,3 +82,4 @@ pub record Rel (c : Settings) (s : Server) (h : History) : Type 0 where
   pub settings : s .settings ≡ c
   pub slots : map seenOf (s .slots) ≡ h .slots
   pub rows : Sim (s .rows) (h .entries)
+  pub updates : (k : ℕ) → slotAt s k .updates ≡ cutOff (h .updates k)

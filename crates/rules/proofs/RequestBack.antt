@@ -23,7 +23,8 @@ use Rattle.protocol.proofs.Lengths.{layout-size}
 use Rattle.rules.specs.Server.{Settings, Slot}
 use Rattle.rules.specs.Slots.{toPeer}
 use Rattle.rules.specs.Poll.{helloOf}
-use Rattle.rules.specs.Demand3.{isRequestType, requestRecords}
+use Rattle.rules.specs.SlotHistory.{isRequestType}
+use Rattle.rules.specs.Demand3.{requestRecords}
 
 -- what a record needs to be read back by position
 pub record Readable (r : CsaRecord) : Type 0 where

@@ -26,7 +26,8 @@ use Rattle.rules.specs.Poll.{requestRecord, heldRecord, updateOf, dueOf,
 use Rattle.rules.specs.Refusals.{pollCode}
 use Rattle.rules.specs.Events.{poll, codeOf, sentIf, writtenAt, itemOf}
 use Rattle.rules.specs.History.{Known, waitsAt, History}
-use Rattle.rules.specs.Demand3.{rowOf, isRequestType, requestRecords, HeldAndWaiting}
+use Rattle.rules.specs.SlotHistory.{isRequestType}
+use Rattle.rules.specs.Demand3.{rowOf, requestRecords, HeldAndWaiting}
 use Rattle.rules.proofs.Relation.{Sized, Inv, Sim, Rel}
 use Rattle.rules.proofs.NextLaws.{next-passes}
 use Rattle.rules.proofs.RequestBack.{Readable, request-back, not-hello, not-ca, not-csus}

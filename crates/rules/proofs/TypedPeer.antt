@@ -12,7 +12,7 @@ use Rattle.protocol.specs.declared.CaNumber.{CaNumber}
 use Rattle.protocol.specs.declared.Kind.the-variants.{Ca, CsuRequest}
 use Rattle.protocol.specs.declared.Last.the-variants.{At}
 use Rattle.protocol.specs.Sizes.{idLength, recordsMost}
-use Rattle.protocol.specs.Numbers.{nextCa}
+use Rattle.protocol.specs.Numbers.{nextCa, oneMore}
 use Rattle.protocol.specs.Messages.{CsaRecord, summaryOf, Body, ca, csuRequest, csuReply, csus, hello, Message}
 use Rattle.protocol.specs.Layouts.{packetOf}
 use Rattle.protocol.specs.WellFormed.{Id, GoodRecord, GoodRecords, GoodBody, GoodReceiver, WellFormed}
@@ -22,7 +22,7 @@ use Rattle.rules.specs.Links.{checkMove, hearsPeer, helloMove, isPast, C
 use Rattle.rules.specs.Rows.{behind, rowsOf, nextWaiting}
 use Rattle.rules.specs.Requests.{allTakenIn, rotated}
 use Rattle.rules.specs.Updates.{allSolicited}
-use Rattle.rules.specs.Slots.{passed, toPeer, withKept, withListed, withCursor, withRequests, moved, completed, caSent}
+use Rattle.rules.specs.Slots.{passed, toPeer, withKept, withListed, withCursor, withRequests, moved, completed, caSent, updateSent}
 use Rattle.rules.specs.Sent.{Sent, nothing, newPacket, again}
 use Rattle.rules.specs.Alignment.{CaPacket, caPacket, ruleFor, answerFrom, answerTo, answerMore, answerBody, caSentBy, wantedOf, taking, keeping}
 use Rattle.rules.specs.Alignment.{answering, caSlot}
@@ -36,7 +36,7 @@ use Rattle.rules.proofs.TypedRows.{TypedRows, replied-all}
 use Rattle.rules.proofs.TypedRecords.{GoodRequests, GoodUpdated, all-updated, all-taken-in, rotated-good, replies-good, all-solicited}
 use Rattle.rules.proofs.TypedRecords.{summaries-good, waiting-good, requests-good}
 use Rattle.rules.proofs.TypedSlots.{SlotFor, hello-good, check-good, ca-good, timers-kept, kept-kept, listed-kept, cursor-kept, requests-kept}
-use Rattle.rules.proofs.TypedSlots.{moved-kept, completed-kept}
+use Rattle.rules.proofs.TypedSlots.{updates-kept, moved-kept, completed-kept}
 
 -- from us to a peer, in our group; a Hello may name nobody
 pub record Meant (s : Settings) (peer : List ℕ) (m : Message) : Type 0 where
@@ -235,8 +235,9 @@ module _ (s : Settings) (peer : List ℕ) (ts : GoodSettings s) (i : Id idLength
         (requests-kept s peer (rotated (x .requests)) (x .missed) x (rotated-good (x .requests) (g .requests)) g)
     due-slot anUpdate now k x g =
         let n : ℕ = behind (x .cursor) (nextWaiting rows k (x .cursor)) % rowsMost in
-        timers-kept s peer (record { hello = x .timers .hello; ca = x .timers .ca; csus = x .timers .csus; update = At now }) (withCursor n x)
-        (cursor-kept s peer n x g)
+        updates-kept s peer (oneMore (x .updates)) (updateSent now (withCursor n x))
+        (timers-kept s peer (record { hello = x .timers .hello; ca = x .timers .ca; csus = x .timers .csus; update = At now }) (withCursor n x)
+        (cursor-kept s peer n x g))
 
     pub poll-sent : (now k : ℕ) (x : Slot) → SlotFor s peer x → GoodSent s peer (pollSent s now rows k x)
     poll-sent now k x g =

@@ -20,7 +20,7 @@ use Rattle.rules.specs.Server.{Settings, Request, Slot}
 use Rattle.rules.specs.Links as links
 use Rattle.rules.specs.Links.{withHello, recorded, negotiating, toBidirectional, toOther, upMove, helloMove, checkMove, enters, isDown}
 use Rattle.rules.specs.Links.{isBidirectional, hearsPeer, CaRule, caMove}
-use Rattle.rules.specs.Slots.{withLink, withTimers, withKept, withListed, withCursor, withRequests, emptied, moved, completed}
+use Rattle.rules.specs.Slots.{withLink, withTimers, withKept, withListed, withCursor, withRequests, withUpdates, emptied, moved, completed}
 use Rattle.laws.proofs.Bools.{pick-of}
 use Rattle.rules.proofs.Typed.{KeptFor, GoodLink, TypedSlot}
 use Rattle.rules.proofs.TypedRecords.{GoodRequests}
@@ -96,6 +96,9 @@ module _ (s : Settings) (peer : List ℕ) where
 
   pub cursor-kept : (n : ℕ) (x : Slot) → SlotFor s peer x → SlotFor s peer (withCursor n x)
   cursor-kept n x g = record { peer-is = g .peer-is; link = g .link; requests = g .requests; kept = g .kept }
+
+  pub updates-kept : (n : ℕ) (x : Slot) → SlotFor s peer x → SlotFor s peer (withUpdates n x)
+  updates-kept n x g = record { peer-is = g .peer-is; link = g .link; requests = g .requests; kept = g .kept }
 
   pub requests-kept : (qs : List Request) (n : ℕ) (x : Slot) → GoodRequests qs → SlotFor s peer x → SlotFor s peer (withRequests qs n x)
   requests-kept qs n x h g = record { peer-is = g .peer-is; link = g .link; requests = h; kept = g .kept }

@@ -4,14 +4,14 @@ use Prim.Native.Nat.{ℕ, _≤_}
 use mathlib.Core.Path.{_≡_}
 use mathlib.Core.Bool.{Bool, true, false, _&&_, _||_}
 use mathlib.Core.List.{List, [], _∷_, map}
-use lib.Dec.{eqb}
+use lib.Dec.{eqb, ltb}
 use lib.IntN.{ℤ, pos}
 use lib.Signed.{_≤ℤ_}
 use Rattle.laws.specs.Choice.{pick}
 use Rattle.laws.specs.Lists.{All}
 use Rattle.laws.specs.Tables.{has, without, count, Perm, In}
 use Rattle.protocol.specs.Sizes.{idLength}
-use Rattle.protocol.specs.Fields.{octet, field2}
+use Rattle.protocol.specs.Fields.{field2}
 use Rattle.protocol.specs.Messages.{CsaRecord}
 use Rattle.protocol.specs.Reading.{recordsAt}
 use Rattle.rules.specs.Server.{Settings, Entry, sameEntry, Row, free, used, isFree, holds, Server, slotAt, rowAt}
@@ -20,6 +20,7 @@ use Rattle.rules.specs.Rows.{toFree}
 use Rattle.rules.specs.Requests.{entryOf}
 use Rattle.rules.specs.Updates.{recordOf}
 use Rattle.rules.specs.Events.{Event, addPeer, linkUp, linkDown, packet, poll, set, withdraw, purge, counts, step, Item, itemOf, run, items}
+use Rattle.rules.specs.SlotHistory.{isRequestType}
 use Rattle.rules.specs.History.{Known, nowHeld, waitsAt, isOf, entryWaits, isDone, History, entriesAt, add}
 
 -- the row of an entry: as it is held, and waiting where it waits
@@ -70,10 +71,6 @@ isPollOf k (set key payload) = false
 isPollOf k (withdraw key) = false
 isPollOf k (purge key) = false
 
--- the type octet says CSU Request
-abbrev pub isRequestType : List ℕ → Bool
-isRequestType p = eqb (octet p 1) 2
-
 -- the records of a CSU Request, of type 2
 abbrev pub requestRecords : List ℕ → List CsaRecord
 requestRecords p = pick (isRequestType p) (recordsAt idLength p (field2 p 18) 28) []
@@ -98,6 +95,10 @@ abbrev pub WaitsThrough : Settings → ℕ → Entry → History → List Item �
 WaitsThrough s k e h [] = has (entryWaits k e) (h .entries) ≡ true
 WaitsThrough s k e h (i ∷ is) = (has (entryWaits k e) (h .entries) ≡ true) × WaitsThrough s k e (add s h i) is
 
+-- a number 'up to 65535'
+abbrev pub cutOff : ℕ → ℕ
+cutOff n = pick (ltb n 65535) n 65535
+
 -- ---- the claims, of a server and the history of the events that led to it
 pub record Demand3 (c : Settings) (s : Server) (h : History) : Type 0 where
   -- 'After the list the server holds exactly the entries of the history', each with number, payload and remaining hops as held
@@ -119,5 +120,7 @@ pub record Demand3 (c : Settings) (s : Server) (h : History) : Type 0 where
   -- 'An entry that waits for a peer all through any 16 such requests to it, one after another, is in one of them'
   pub fair : (k : ℕ) (e : Entry) (es : List Event) → WaitsThrough c k e h (items s es) → 16 ≤ count (isUpdateTo k) (items s es)
       → has (isUpdateOf k e) (items s es) ≡ true
+  -- document 02, L1: 'how many requests written at polls the slot's history holds since it last entered Negotiate, up to 65535'
+  pub updates : (k : ℕ) → slotAt s k .updates ≡ cutOff (h .updates k)
   -- 'Whatever a packet in one peer's slot holds, it changes nothing that the server keeps for any other slot but what waits there'
   pub others : (k now : ℕ) (p : List ℕ) (room j : ℕ) → (j ≡ k → ⊥) → slotAt (step s (packet k now p room)) j ≡ slotAt s j

@@ -89,6 +89,7 @@ peerSlot id = record {
   cursor = 0;
   requests = [];
   missed = 0;
+  updates = 0;
 }
 
 -- 'none since link up' starts anew when link up leaves Down

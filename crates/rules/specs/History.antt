@@ -1,13 +1,14 @@
 -- The history of demand 3 (document 01, 'Updates'): it 'starts with the settings and nothing else, and is fed only each event's arguments,
 -- code and octets written'. No server is in sight.
 -- Assumes nothing.
-use Prim.Native.Nat.{ℕ, _-_}
+use Prim.Native.Nat.{ℕ, suc, _-_}
 use mathlib.Core.Bool.{Bool, true, false, not, _&&_, _||_}
 use mathlib.Core.List.{List, [], _∷_, map}
 use lib.Dec.{eqb, ltb}
 use lib.ListN.{length, replicate}
 use Rattle.laws.specs.Choice.{pick}
 use Rattle.laws.specs.Tables.{on, has, update, without}
+use Rattle.protocol.specs.declared.Alignment.{Alignment}
 use Rattle.protocol.specs.Sizes.{idLength}
 use Rattle.protocol.specs.Numbers.{newer, nextCsa, firstNumber, purged}
 use Rattle.protocol.specs.Messages.{CsaRecord, Body, ca, csuRequest, csuReply, csus, hello}
@@ -17,9 +18,10 @@ use Rattle.rules.specs.Links.{enters}
 use Rattle.rules.specs.Rows.{isPurged, anySlot}
 use Rattle.rules.specs.Requests.{entryOf}
 use Rattle.rules.specs.Updates.{hopsMost, value, stepped, valueOf}
+use Rattle.rules.specs.Slots.{updatesIn}
 use Rattle.rules.specs.Refusals.{ownEntry}
 use Rattle.rules.specs.Events.{Event, addPeer, linkUp, linkDown, packet, poll, set, withdraw, purge, counts, Place, inSlot, nowhere, placeOf, Item}
-use Rattle.rules.specs.SlotHistory.{SlotHistory, unusedSlot, slotHistoriesAfter, stateAt, liveStates}
+use Rattle.rules.specs.SlotHistory.{SlotHistory, unusedSlot, isRequestType, slotHistoriesAfter, stateAt, liveStates}
 
 -- ---- what is known of an entry that has a row
 -- 'our changes and the taken update records for it, null records apart, since it got the row', in order
@@ -56,10 +58,12 @@ nowHeld x = held (x .arrivals)
 abbrev pub waitsAt : (ℕ → List Act) → ℕ → Bool
 waitsAt acts k = waiting (acts k)
 
--- the slots as they moved, and the entries that have rows
+-- the slots as they moved, the entries that have rows, and the update requests written at polls of each slot since it last entered Negotiate
+-- (document 02, L1)
 pub record History : Type 0 where
   pub slots : List SlotHistory
   pub entries : List Known
+  pub updates : ℕ → ℕ
 
 -- ---- puts and takes
 abbrev pub act : ℕ → Act → (ℕ → List Act) → ℕ → List Act
@@ -178,6 +182,25 @@ abbrev pub entriesLeft : Place → List SlotHistory → List SlotHistory → Lis
 entriesLeft (inSlot k) before after es = leftIf (enters (stateAt before k) (stateAt after k)) k es
 entriesLeft nowhere before after es = es
 
+-- ---- 'how many requests written at polls the slot's history holds since it last entered Negotiate' (document 02, L1)
+abbrev pub sinceIn : Alignment → Alignment → ℕ → ℕ
+sinceIn before after n = pick (enters before after) (updatesIn after n) n
+
+abbrev pub updatesSince : ℕ → List SlotHistory → List SlotHistory → (ℕ → ℕ) → ℕ
+updatesSince k before after n = sinceIn (stateAt before k) (stateAt after k) (n k)
+
+-- a slot that gets a peer has none
+abbrev pub updatesAfter : Event → List ℕ → List SlotHistory → List SlotHistory → (ℕ → ℕ) → ℕ → ℕ
+updatesAfter (addPeer k id) written before after n = on k 0 n
+updatesAfter (linkUp k now) written before after n = on k (updatesSince k before after n) n
+updatesAfter (linkDown k now) written before after n = on k (updatesSince k before after n) n
+updatesAfter (packet k now p room) written before after n = on k (updatesSince k before after n) n
+updatesAfter (poll k now room) written before after n =
+    on k (pick (isRequestType written) (suc (updatesSince k before after n)) (updatesSince k before after n)) n
+updatesAfter (set key payload) written before after n = n
+updatesAfter (withdraw key) written before after n = n
+updatesAfter (purge key) written before after n = n
+
 -- ---- one more item: 'Refused events add nothing, the malformed Hello apart'
 abbrev pub slotsAt : Settings → History → Item → List SlotHistory
 slotsAt s h i = slotHistoriesAfter (placeOf (i .event)) (i .event) s (i .written) (h .slots)
@@ -187,7 +210,11 @@ abbrev pub entriesAt : Settings → History → Item → List Known
 entriesAt s h i = entriesLeft (placeOf (i .event)) (h .slots) (slotsAt s h i) (entriesChanged (i .event) s (liveStates (h .slots)) (h .entries))
 
 abbrev pub noteItem : Settings → History → Item → History
-noteItem s h i = record { slots = slotsAt s h i; entries = without isDone (entriesAt s h i) }
+noteItem s h i = record {
+  slots = slotsAt s h i;
+  entries = without isDone (entriesAt s h i);
+  updates = updatesAfter (i .event) (i .written) (h .slots) (slotsAt s h i) (h .updates);
+}
 
 abbrev pub addIf : Bool → Settings → History → Item → History
 addIf true s h i = noteItem s h i
@@ -201,7 +228,7 @@ historyFrom s h [] = h
 historyFrom s h (i ∷ is) = historyFrom s (add s h i) is
 
 abbrev pub noHistory : History
-noHistory = record { slots = replicate slotsMost unusedSlot; entries = [] }
+noHistory = record { slots = replicate slotsMost unusedSlot; entries = []; updates = λ _. 0 }
 
 abbrev pub history : Settings → List Item → History
 history s is = historyFrom s noHistory is

@@ -16,3 +16,4 @@ pub mod Written
 pub mod SlotHistory
 pub mod History
 pub mod Demand3
+pub mod Drain

@@ -19,7 +19,7 @@ use Rattle.rules.specs.Links.{hearsPeer, isPast, checkMove}
 use Rattle.rules.specs.Rows.{nextWaiting, behind, rowsOf}
 use Rattle.rules.specs.Requests.{rotated}
 use Rattle.rules.specs.Updates.{recordOf}
-use Rattle.rules.specs.Slots.{passed, toPeer, moved, withKept, withCursor, withRequests, helloSent, caSent, csusSent, updateSent}
+use Rattle.rules.specs.Slots.{passed, toPeer, moved, withKept, withCursor, withRequests, helloSent, caSent, csusSent, updateSent, updateCounted}
 use Rattle.rules.specs.Sent.{Sent, nothing, newPacket, again}
 
 -- what a poll sends
@@ -111,7 +111,8 @@ dueSlot aHello s now rows k x = helloSent (At now) x
 dueSlot firstCa s now rows k x = caSent now (withKept (packetOf (firstCaOf s x)) x)
 dueSlot keptCa s now rows k x = caSent now x
 dueSlot aCsus s now rows k x = csusSent now (withRequests (rotated (x .requests)) (x .missed) x)
-dueSlot anUpdate s now rows k x = updateSent now (withCursor (behind (x .cursor) (nextWaiting rows k (x .cursor)) % rowsMost) x)
+dueSlot anUpdate s now rows k x =
+    updateCounted (updateSent now (withCursor (behind (x .cursor) (nextWaiting rows k (x .cursor)) % rowsMost) x))
 
 -- 'the slave at .. past Summarize, at a poll 5 seconds after it was last sent'; the master has none there
 abbrev pub keptDropped : ℕ → Slot → Slot

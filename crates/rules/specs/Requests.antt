@@ -1,6 +1,6 @@
 -- Document 01, 'Alignment', 'Taking in', and 'Updates': the request list of a slot.
 -- Assumes nothing.
-use Prim.Native.Nat.{ℕ, suc}
+use Prim.Native.Nat.{ℕ}
 use mathlib.Core.Bool.{Bool, false, not, _&&_}
 use mathlib.Core.List.{List, [], _∷_, _++_}
 use lib.Dec.{ltb}
@@ -8,7 +8,7 @@ use lib.ListN.{length, take, drop}
 use Rattle.laws.specs.Choice.{pick}
 use Rattle.laws.specs.Tables.{has, change, without}
 use Rattle.protocol.specs.declared.CsaNumber.{CsaNumber}
-use Rattle.protocol.specs.Numbers.{newer}
+use Rattle.protocol.specs.Numbers.{newer, oneMore}
 use Rattle.protocol.specs.Messages.{CsaRecord}
 use Rattle.rules.specs.Server.{requestsMost, Entry, sameEntry, Row, free, used, Request}
 use Rattle.rules.specs.Rows.{entryRow}
@@ -39,7 +39,7 @@ join e n w =
     pick (has (asks e) (w .requests)) (record { requests = change (asks e) (raised n) (w .requests); missed = w .missed })
     (pick (ltb (length (w .requests)) requestsMost)
     (record { requests = w .requests ++ (record { entry = e; number = n } ∷ []); missed = w .missed })
-    (record { requests = w .requests; missed = pick (ltb (w .missed) 65535) (suc (w .missed)) (w .missed) }))
+    (record { requests = w .requests; missed = oneMore (w .missed) }))
 
 -- 'a summary of an absent or newer entry joins the request list'
 abbrev pub takenIn : List Row → CsaRecord → Wanted → Wanted

@@ -63,7 +63,8 @@ pub record Request : Type 0 where
   pub entry : Entry
   pub number : CsaNumber
 
--- A peer slot. `listed` is the row that the next CA answer goes on from, `cursor` the row that the next update request does.
+-- A peer slot. `listed` is the row that the next CA answer goes on from, `cursor` the row that the next update request does, `updates` how many
+-- update requests were written at polls since the slot last entered Negotiate, up to 65535 (document 02, L1).
 pub record Slot : Type 0 where
   pub used : Bool
   pub peer : List ℕ
@@ -74,6 +75,7 @@ pub record Slot : Type 0 where
   pub cursor : ℕ
   pub requests : List Request
   pub missed : ℕ
+  pub updates : ℕ
 
 pub record Server : Type 0 where
   pub settings : Settings
@@ -109,6 +111,7 @@ freshSlot = record {
   cursor = 0;
   requests = [];
   missed = 0;
+  updates = 0;
 }
 
 abbrev pub fresh : Settings → Server

@@ -122,6 +122,10 @@ quiet e l x =
 abbrev pub isCa : List ℕ → Bool
 isCa p = eqb (octet p 1) 1
 
+-- the type octet says CSU Request
+abbrev pub isRequestType : List ℕ → Bool
+isRequestType p = eqb (octet p 1) 2
+
 -- the time of an event that may write
 abbrev pub timeOf : Event → ℕ
 timeOf (addPeer k id) = 0

@@ -12,6 +12,7 @@ use Rattle.protocol.specs.declared.Last.{Last}
 use Rattle.protocol.specs.declared.Last.the-variants.{Never, At}
 use Rattle.protocol.specs.declared.Link.{Link}
 use Rattle.protocol.specs.declared.Timers.{Timers}
+use Rattle.protocol.specs.Numbers.{oneMore}
 use Rattle.protocol.specs.Messages.{Body, Message}
 use Rattle.rules.specs.Server.{Settings, Request, Slot}
 use Rattle.rules.specs.Links.{withAlignment, enters}
@@ -37,6 +38,7 @@ withLink l x = record {
   cursor = x .cursor;
   requests = x .requests;
   missed = x .missed;
+  updates = x .updates;
 }
 
 abbrev pub withTimers : Timers → Slot → Slot
@@ -50,6 +52,7 @@ withTimers t x = record {
   cursor = x .cursor;
   requests = x .requests;
   missed = x .missed;
+  updates = x .updates;
 }
 
 abbrev pub withKept : List ℕ → Slot → Slot
@@ -63,6 +66,7 @@ withKept p x = record {
   cursor = x .cursor;
   requests = x .requests;
   missed = x .missed;
+  updates = x .updates;
 }
 
 abbrev pub withListed : ℕ → Slot → Slot
@@ -76,6 +80,7 @@ withListed n x = record {
   cursor = x .cursor;
   requests = x .requests;
   missed = x .missed;
+  updates = x .updates;
 }
 
 abbrev pub withCursor : ℕ → Slot → Slot
@@ -89,6 +94,7 @@ withCursor n x = record {
   cursor = n;
   requests = x .requests;
   missed = x .missed;
+  updates = x .updates;
 }
 
 abbrev pub withRequests : List Request → ℕ → Slot → Slot
@@ -102,6 +108,21 @@ withRequests qs n x = record {
   cursor = x .cursor;
   requests = qs;
   missed = n;
+  updates = x .updates;
+}
+
+abbrev pub withUpdates : ℕ → Slot → Slot
+withUpdates n x = record {
+  used = x .used;
+  peer = x .peer;
+  link = x .link;
+  timers = x .timers;
+  kept = x .kept;
+  listed = x .listed;
+  cursor = x .cursor;
+  requests = x .requests;
+  missed = x .missed;
+  updates = n;
 }
 
 -- ---- when packets were sent
@@ -117,6 +138,18 @@ csusSent now x = withTimers (record { hello = x .timers .hello; ca = x .timers .
 abbrev pub updateSent : ℕ → Slot → Slot
 updateSent now x = withTimers (record { hello = x .timers .hello; ca = x .timers .ca; csus = x .timers .csus; update = At now }) x
 
+-- one more update request written at a poll, 'up to 65535' (document 02, L1)
+abbrev pub updateCounted : Slot → Slot
+updateCounted x = withUpdates (oneMore (x .updates)) x
+
+-- 'since it last entered Negotiate' (document 02, L1); entering Down leaves it
+abbrev pub updatesIn : Alignment → ℕ → ℕ
+updatesIn Down n = n
+updatesIn Negotiate n = 0
+updatesIn (Summarize r) n = n
+updatesIn Update n = n
+updatesIn Aligned n = n
+
 -- ---- 'Entering Down or Negotiate empties the slot's request list, waiting list, kept CA and missed count'; the times of sending count
 -- from Negotiate on, and so does the place of the next rows
 abbrev pub emptied : Slot → Slot
@@ -130,6 +163,7 @@ emptied x = record {
   cursor = 0;
   requests = [];
   missed = 0;
+  updates = updatesIn (x .link .alignment) (x .updates);
 }
 
 -- the slot with its link moved

@@ -2,16 +2,18 @@
 -- Assumes nothing.
 use Prim.Native.Nat.{ℕ, _^_, _≤_, _<_}
 use mathlib.Core.Path.{_≡_, refl, sym, ap, _∙_}
-use mathlib.Core.Bool.{Bool, true, false, false≢true}
+use mathlib.Core.Bool.{Bool, true, false, not, _||_, false≢true}
 use mathlib.Core.List.{List, []}
 use native.Mathlib.Omega.{arith}
 use lib.Dec.{ltb}
 use lib.ListN.{length, List·getD-eq-default}
 use lib.Pow.{pow-mono}
 use borrow.Author.Tests.{ltb-true, ltb-false}
+use Rattle.laws.specs.Choice.{pick}
+use Rattle.laws.proofs.Bools.{or-right}
 use Rattle.protocol.specs.Fields.{octet}
 use Rattle.rules.specs.Server as rules
-use Rattle.rules.specs.Server.{freshSlot, Row, free, slotAt, isUsed, waitsFor, rowAt}
+use Rattle.rules.specs.Server.{slotsMost, freshSlot, Row, free, slotAt, isUsed, waitsFor, rowAt}
 use Rattle.memory.specs.Layout.{markPlace}
 use Rattle.memory.specs.Memory.{isMarked, rowIn, rowsIn, requestsIn}
 use Rattle.memory.proofs.Bits.{bit-le}
@@ -23,6 +25,7 @@ use Rattle.slots.specs.State.{slotOf}
 use Rattle.table.specs.Words.{slotIn}
 use Rattle.actions.specs.Parts.{slotNow, slotWith}
 use Rattle.server.specs.State.{slotsOf, serverOf}
+use Rattle.server.specs.Queries.{refused, shown, slotReport, reportBy, reportOf}
 use Rattle.server.proofs.ServerLaws.{slots-eight, slot-of}
 
 -- ---- a slot
@@ -44,6 +47,25 @@ module _ (s : Server) (slots m : List ℕ) (k : ℕ) where
 
   pub shows-fresh : (x : Slot) → 8 ≤ k → slotOf x [] [] ≡ freshSlot → Shows x (slotAt (serverOf s slots m) k)
   shows-fresh x h e = shows x freshSlot (slot-above h) e
+
+  -- ---- its report
+  used-as : (x : Slot) → Shows x (slotAt (serverOf s slots m) k) → slotAt (serverOf s slots m) k .used ≡ x .used
+  used-as x h = sym (ap (λ (y : rules.Slot). y .used) h)
+
+  pub report-none : (x : Slot) → Shows x (slotAt (serverOf s slots m) k) → x .used ≡ false → refused 1 ≡ reportOf (serverOf s slots m) k
+  report-none x h u =
+      ap (λ (b : Bool). reportBy (pick b 1 0) (slotAt (serverOf s slots m) k))
+      (sym (or-right (not (ltb k slotsMost)) (not (slotAt (serverOf s slots m) k .used)) (ap not (used-as x h ∙ u))))
+
+  below-eight : (b : Bool) → ltb k 8 ≡ b → slotAt (serverOf s slots m) k .used ≡ true → b ≡ true
+  below-eight true e u = refl
+  below-eight false e u = absurd (false≢true (sym (ap (λ (y : rules.Slot). y .used) (slot-above (ltb-false k 8 e))) ∙ u))
+
+  pub report-shown : (x : Slot) → Shows x (slotAt (serverOf s slots m) k) → x .used ≡ true
+      → shown (x .link .hello) (x .link .alignment) (x .link .role) (x .updates) (x .missed) ≡ reportOf (serverOf s slots m) k
+  report-shown x h u =
+      let v : slotAt (serverOf s slots m) k .used ≡ true = used-as x h ∙ u in
+      ap slotReport h ∙ (λ i. reportBy (pick (not (sym (below-eight (ltb k 8) refl v) i) || not (sym v i)) 1 0) (slotAt (serverOf s slots m) k))
 
   pub requests-below : (n : ℕ) → k < 8 → n ≡ length (requestsIn m k) → n ≡ length (slotAt (serverOf s slots m) k .requests)
   requests-below n h e = e ∙ ap length (sym (ap (λ (x : rules.Slot). x .requests) (slot-of s slots m k h) ∙ requests-of m k h))

@@ -13,7 +13,7 @@ use slots::state::Server;
 use slots::state::Settings;
 
 // A server with these settings, a table in which no slot has a peer, and a memory with nothing in it. Where they are refused the server counts for nothing.
-pub fn start(settings: Settings, slots: &mut [usize; 192], memory: &mut [u8; 21504]) -> Answer
+pub fn start(settings: Settings, slots: &mut [usize; 200], memory: &mut [u8; 21504]) -> Answer
     ensures { λ r. ⌜ Starts settings (now (slots .entry)) (now (slots .exit)) (now (memory .entry)) (now (memory .exit)) r ⌝ }
 {
     peers::start(settings, slots, memory)
@@ -21,7 +21,7 @@ pub fn start(settings: Settings, slots: &mut [usize; 192], memory: &mut [u8; 215
 
 pub fn add_peer(
     s: Server,
-    slots: &mut [usize; 192],
+    slots: &mut [usize; 200],
     memory: &mut [u8; 21504],
     slot: usize,
     id: &[u8],
@@ -35,7 +35,7 @@ pub fn add_peer(
 
 pub fn link_up(
     s: Server,
-    slots: &mut [usize; 192],
+    slots: &mut [usize; 200],
     memory: &mut [u8; 21504],
     slot: usize,
     time: u32,
@@ -47,7 +47,7 @@ pub fn link_up(
 
 pub fn link_down(
     s: Server,
-    slots: &mut [usize; 192],
+    slots: &mut [usize; 200],
     memory: &mut [u8; 21504],
     slot: usize,
     time: u32,
@@ -59,7 +59,7 @@ pub fn link_down(
 
 pub fn packet(
     s: Server,
-    slots: &mut [usize; 192],
+    slots: &mut [usize; 200],
     memory: &mut [u8; 21504],
     slot: usize,
     time: u32,
@@ -75,7 +75,7 @@ pub fn packet(
 
 pub fn poll(
     s: Server,
-    slots: &mut [usize; 192],
+    slots: &mut [usize; 200],
     memory: &mut [u8; 21504],
     slot: usize,
     time: u32,
@@ -89,7 +89,7 @@ pub fn poll(
 
 pub fn set(
     s: Server,
-    slots: &[usize; 192],
+    slots: &[usize; 200],
     memory: &mut [u8; 21504],
     key: &[u8],
     payload: &[u8],
@@ -102,14 +102,14 @@ pub fn set(
     own::set(s, slots, memory, key, payload)
 }
 
-pub fn withdraw(s: Server, slots: &[usize; 192], memory: &mut [u8; 21504], key: &[u8]) -> Answer
+pub fn withdraw(s: Server, slots: &[usize; 200], memory: &mut [u8; 21504], key: &[u8]) -> Answer
     ensures { λ r. ⌜ Does (events.withdraw (now (key .entry))) s (now (slots .entry)) (now (slots .entry)) (now (memory .entry)) (now (memory .exit)) r ⌝ }
 {
     octets::bounded(key);
     own::withdraw(s, slots, memory, key)
 }
 
-pub fn purge(s: Server, slots: &[usize; 192], memory: &mut [u8; 21504], key: &[u8]) -> Answer
+pub fn purge(s: Server, slots: &[usize; 200], memory: &mut [u8; 21504], key: &[u8]) -> Answer
     ensures { λ r. ⌜ Does (events.purge (now (key .entry))) s (now (slots .entry)) (now (slots .entry)) (now (memory .entry)) (now (memory .exit)) r ⌝ }
 {
     octets::bounded(key);

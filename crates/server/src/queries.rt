@@ -11,13 +11,15 @@ ghost use Rattle.memory.specs.Memory.{rowsIn};
 ghost use Rattle.slots.specs.State.{slotOf};
 ghost use Rattle.slots.specs.declared.state.Server as declared;
 ghost use Rattle.server.specs.State.{serverOf};
-ghost use Rattle.server.specs.Queries.{entryShown, valueShown};
+ghost use Rattle.server.specs.Queries.{entryShown, valueShown, reportOf, reported};
 use memory::marks;
 use memory::requests;
 use memory::rows;
 use protocol::Alignment;
 use protocol::CsaNumber;
 use protocol::HelloState;
+use protocol::Role;
+use slots::answers::Failure;
 use slots::state;
 use slots::state::Slot;
 
@@ -33,7 +35,7 @@ fn slot_of(slots: &[usize], slot: usize) -> Slot
     state::fresh_slot()
 }
 
-pub fn hello_of(slots: &[usize; 192], slot: usize) -> HelloState
+pub fn hello_of(slots: &[usize; 200], slot: usize) -> HelloState
     ensures { λ r. ⌜ ((s : declared.Server) (memory : List ℕ) → r ≡ rules.slotAt (serverOf s (now (slots .entry)) memory) slot .link .hello) ⌝ }
 {
     let x = slot_of(slots, slot);
@@ -41,7 +43,7 @@ pub fn hello_of(slots: &[usize; 192], slot: usize) -> HelloState
     l.hello
 }
 
-pub fn alignment_of(slots: &[usize; 192], slot: usize) -> Alignment
+pub fn alignment_of(slots: &[usize; 200], slot: usize) -> Alignment
     ensures { λ r. ⌜ ((s : declared.Server) (memory : List ℕ) → r ≡ rules.slotAt (serverOf s (now (slots .entry)) memory) slot .link .alignment) ⌝ }
 {
     let x = slot_of(slots, slot);
@@ -50,11 +52,46 @@ pub fn alignment_of(slots: &[usize; 192], slot: usize) -> Alignment
 }
 
 // How many wanted entries found no room in the slot's request list.
-pub fn missed_of(slots: &[usize; 192], slot: usize) -> u16
+pub fn missed_of(slots: &[usize; 200], slot: usize) -> u16
     ensures { λ r. ⌜ ((s : declared.Server) (memory : List ℕ) → r ≡ rules.slotAt (serverOf s (now (slots .entry)) memory) slot .missed) ⌝ }
 {
     let x = slot_of(slots, slot);
     x.missed
+}
+
+// The state of a slot, and beside it how many update requests were written at polls since it last entered Negotiate, up to 65535, and how many
+// wanted entries found no room (document 02, L1).
+pub struct SlotState {
+    pub hello: HelloState,
+    pub alignment: Alignment,
+    pub role: Role,
+    pub updates: u16,
+    pub missed: u16,
+}
+
+pub enum Status {
+    Refused(Failure),
+    Shown(SlotState),
+}
+
+pub fn status_of(slots: &[usize; 200], slot: usize) -> Status
+    ensures { λ r. ⌜ ((s : declared.Server) (memory : List ℕ) → reported r ≡ reportOf (serverOf s (now (slots .entry)) memory) slot) ⌝ }
+{
+    let x = slot_of(slots, slot);
+    if !x.used {
+        return Status::Refused(Failure::NoPeer);
+    }
+    let l = x.link;
+    let hello = l.hello;
+    let alignment = l.alignment;
+    let role = l.role;
+    Status::Shown(SlotState {
+        hello,
+        alignment,
+        role,
+        updates: x.updates,
+        missed: x.missed,
+    })
 }
 
 // How many requests the slot holds.

@@ -28,6 +28,7 @@ slotOf x requests kept = record {
   cursor = x .cursor;
   requests = requests;
   missed = x .missed;
+  updates = x .updates;
 }
 
 abbrev pub emptyIf : {A : Type 0} → Bool → List A → List A

@@ -30,7 +30,8 @@ pub struct Settings {
     pub factor: u16,
 }
 
-// A peer slot. `listed` is the row that the next CA answer goes on from, `cursor` the row that the next update request does.
+// A peer slot. `listed` is the row that the next CA answer goes on from, `cursor` the row that the next update request does,
+// `updates` how many update requests were written at polls since the slot last entered Negotiate, up to 65535 (document 02, L1).
 pub struct Slot {
     pub used: bool,
     pub peer: [u8; 4],
@@ -39,6 +40,7 @@ pub struct Slot {
     pub listed: usize,
     pub cursor: u32,
     pub missed: u16,
+    pub updates: u16,
 }
 
 // The slots are in a lent table, so that no event copies them all.
@@ -97,6 +99,7 @@ pub fn fresh_slot() -> Slot
         listed: 0,
         cursor: 0,
         missed: 0,
+        updates: 0,
     }
 }
 
@@ -113,6 +116,7 @@ pub fn peer_slot(id: [u8; 4]) -> Slot
         listed: 0,
         cursor: 0,
         missed: 0,
+        updates: 0,
     }
 }
 
@@ -161,6 +165,19 @@ pub fn ca_sent(x: Slot, now: u32) -> Slot
 }
 
 // ---- its link moved
+// The update requests counted: from Negotiate on, and Down leaves them.
+fn updates_in(a: Alignment, n: u16) -> u16
+    ensures { λ r. ⌜ r ≡ rules.updatesIn a n ⌝ }
+{
+    match a {
+        Alignment::Down => n,
+        Alignment::Negotiate => 0,
+        Alignment::Summarize(_) => n,
+        Alignment::Update => n,
+        Alignment::Aligned => n,
+    }
+}
+
 // What Down and Negotiate empty, the request list and the kept CA apart.
 fn emptied(x: Slot) -> Slot
     ensures { λ r. ⌜ ((qs : List Request) (kept : List ℕ) → slotOf r [] [] ≡ rules.emptied (slotOf x qs kept)) ⌝ }
@@ -173,11 +190,15 @@ fn emptied(x: Slot) -> Slot
         csus: Last::Never,
         update: Last::Never,
     };
+    let l = x.link;
+    let a = l.alignment;
+    let updates = updates_in(a, x.updates);
     let mut y = x;
     y.timers = timers;
     y.listed = 0;
     y.cursor = 0;
     y.missed = 0;
+    y.updates = updates;
     y
 }
 

@@ -21,7 +21,7 @@ use Rattle.protocol.specs.declared.Last.the-variants.{At}
 use Rattle.rules.specs.Server as rules
 use Rattle.rules.specs.Server.{Request}
 use Rattle.rules.specs.Links.{withAlignment, withHello}
-use Rattle.rules.specs.Slots.{withLink, withTimers, withCursor, helloSent, caSent, csusSent, updateSent}
+use Rattle.rules.specs.Slots.{withLink, withTimers, withCursor, withUpdates, helloSent, caSent, csusSent, updateSent}
 use Rattle.slots.specs.declared.state.Slot.{Slot}
 use Rattle.slots.specs.State.{slotOf}
 use Rattle.table.specs.Words.{slotWords, shortIn, numberIn, lastIn, helloIn, alignmentIn, slotFrom, slotIn, PutsWord, Changes, withHeard}
@@ -137,6 +137,9 @@ module _ (k w : ℕ) (before after : List ℕ) where
   pub cursor-put : (n : ℕ) → PutsWord k 22 w before after → numberIn w ≡ n → Changes k (withCursor n) before after
   cursor-put n p e = changes-by k 22 w before after p (withCursor n) (λ qs kept. ap (λ (z : ℕ). withCursor z (slotFor qs kept)) e)
 
+  pub updates-put : (n : ℕ) → PutsWord k 24 w before after → shortIn w ≡ n → Changes k (withUpdates n) before after
+  updates-put n p e = changes-by k 24 w before after p (withUpdates n) (λ qs kept. ap (λ (z : ℕ). withUpdates z (slotFor qs kept)) e)
+
   pub alignment-put : (a : Alignment) → PutsWord k 9 w before after → alignmentIn w ≡ a → Changes k (λ x. withLink (withAlignment a (x .link)) x) before after
   alignment-put a p e =
       changes-by k 9 w before after p (λ x. withLink (withAlignment a (x .link)) x)
@@ -159,3 +162,8 @@ module _ (k w : ℕ) (before after : List ℕ) where
 -- one part of a slot after another
 pub changes-then : (k : ℕ) (f g : rules.Slot → rules.Slot) (a b c : List ℕ) → Changes k f a b → Changes k g b c → Changes k (λ x. g (f x)) a c
 changes-then k f g a b c h l = record { slot = λ qs kept. l .slot qs kept ∙ ap g (h .slot qs kept); others = λ j q. l .others j q ∙ h .others j q }
+
+-- the same change in other words
+pub changes-as : (k : ℕ) (f g : rules.Slot → rules.Slot) (a b : List ℕ)
+    → ((qs : List Request) (kept : List ℕ) → f (slotOf (slotIn a k) qs kept) ≡ g (slotOf (slotIn a k) qs kept)) → Changes k f a b → Changes k g a b
+changes-as k f g a b e h = record { slot = λ qs kept. h .slot qs kept ∙ e qs kept; others = h .others }

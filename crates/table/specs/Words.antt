@@ -25,7 +25,7 @@ use Rattle.slots.specs.declared.state.Slot.{Slot}
 use Rattle.slots.specs.State.{slotOf}
 
 abbrev pub slotWords : ℕ
-slotWords = 24
+slotWords = 25
 
 abbrev pub tableSize : ℕ
 tableSize = slotsMost * slotWords
@@ -61,7 +61,7 @@ abbrev pub lastIn : ℕ → Last
 lastIn zero = Never
 lastIn (suc n) = At (numberIn n)
 
--- ---- a slot of 24 words, in the order of its fields
+-- ---- a slot of 25 words, in the order of its fields
 abbrev pub slotFrom : (ℕ → ℕ) → Slot
 slotFrom w = record {
   used = flagIn (w 0);
@@ -81,6 +81,7 @@ slotFrom w = record {
   listed = w 21;
   cursor = numberIn (w 22);
   missed = shortIn (w 23);
+  updates = shortIn (w 24);
 }
 
 -- slot k of the table

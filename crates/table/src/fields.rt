@@ -16,63 +16,70 @@ pub fn heard_at(t: &[usize], k: usize) -> u32
     requires { ⌜ (length (now t) ≡ tableSize) × (k < 8) ⌝ }
     ensures { λ r. ⌜ r ≡ slotIn (now (t .entry)) k .link .heard ⌝ }
 {
-    words::number(t[k * 24 + 6])
+    words::number(t[k * 25 + 6])
 }
 
 pub fn interval_at(t: &[usize], k: usize) -> u16
     requires { ⌜ (length (now t) ≡ tableSize) × (k < 8) ⌝ }
     ensures { λ r. ⌜ r ≡ slotIn (now (t .entry)) k .link .interval ⌝ }
 {
-    words::short(t[k * 24 + 7])
+    words::short(t[k * 25 + 7])
 }
 
 pub fn factor_at(t: &[usize], k: usize) -> u16
     requires { ⌜ (length (now t) ≡ tableSize) × (k < 8) ⌝ }
     ensures { λ r. ⌜ r ≡ slotIn (now (t .entry)) k .link .factor ⌝ }
 {
-    words::short(t[k * 24 + 8])
+    words::short(t[k * 25 + 8])
 }
 
 pub fn number_at(t: &[usize], k: usize) -> CaNumber
     requires { ⌜ (length (now t) ≡ tableSize) × (k < 8) ⌝ }
     ensures { λ r. ⌜ r ≡ slotIn (now (t .entry)) k .link .number ⌝ }
 {
-    CaNumber(words::number(t[k * 24 + 11]))
+    CaNumber(words::number(t[k * 25 + 11]))
 }
 
 pub fn hello_sent_at(t: &[usize], k: usize) -> Last
     requires { ⌜ (length (now t) ≡ tableSize) × (k < 8) ⌝ }
     ensures { λ r. ⌜ r ≡ slotIn (now (t .entry)) k .timers .hello ⌝ }
 {
-    words::last_sent(t[k * 24 + 17])
+    words::last_sent(t[k * 25 + 17])
 }
 
 pub fn ca_sent_at(t: &[usize], k: usize) -> Last
     requires { ⌜ (length (now t) ≡ tableSize) × (k < 8) ⌝ }
     ensures { λ r. ⌜ r ≡ slotIn (now (t .entry)) k .timers .ca ⌝ }
 {
-    words::last_sent(t[k * 24 + 18])
+    words::last_sent(t[k * 25 + 18])
 }
 
 pub fn csus_sent_at(t: &[usize], k: usize) -> Last
     requires { ⌜ (length (now t) ≡ tableSize) × (k < 8) ⌝ }
     ensures { λ r. ⌜ r ≡ slotIn (now (t .entry)) k .timers .csus ⌝ }
 {
-    words::last_sent(t[k * 24 + 19])
+    words::last_sent(t[k * 25 + 19])
 }
 
 pub fn update_sent_at(t: &[usize], k: usize) -> Last
     requires { ⌜ (length (now t) ≡ tableSize) × (k < 8) ⌝ }
     ensures { λ r. ⌜ r ≡ slotIn (now (t .entry)) k .timers .update ⌝ }
 {
-    words::last_sent(t[k * 24 + 20])
+    words::last_sent(t[k * 25 + 20])
 }
 
 pub fn cursor_at(t: &[usize], k: usize) -> u32
     requires { ⌜ (length (now t) ≡ tableSize) × (k < 8) ⌝ }
     ensures { λ r. ⌜ r ≡ slotIn (now (t .entry)) k .cursor ⌝ }
 {
-    words::number(t[k * 24 + 22])
+    words::number(t[k * 25 + 22])
+}
+
+pub fn updates_at(t: &[usize], k: usize) -> u16
+    requires { ⌜ (length (now t) ≡ tableSize) × (k < 8) ⌝ }
+    ensures { λ r. ⌜ r ≡ slotIn (now (t .entry)) k .updates ⌝ }
+{
+    words::short(t[k * 25 + 24])
 }
 
 // ---- put
@@ -80,7 +87,7 @@ fn put_word(t: &mut [usize], k: usize, n: usize, w: usize)
     requires { ⌜ (length (now t) ≡ tableSize) × ((k < 8) × (n < slotWords)) ⌝ }
     ensures { λ _. ⌜ PutsWord k n w (now (t .entry)) (now (t .exit)) ⌝ }
 {
-    t[k * 24 + n] = w;
+    t[k * 25 + n] = w;
 }
 
 pub fn put_hello_sent(t: &mut [usize], k: usize, last: Last)
@@ -116,6 +123,13 @@ pub fn put_cursor(t: &mut [usize], k: usize, cursor: u32)
     ensures { λ _. ⌜ Changes k (rules.withCursor cursor) (now (t .entry)) (now (t .exit)) ⌝ }
 {
     put_word(t, k, 22, words::of_number(cursor))
+}
+
+pub fn put_updates(t: &mut [usize], k: usize, n: u16)
+    requires { ⌜ (length (now t) ≡ tableSize) × (k < 8) ⌝ }
+    ensures { λ _. ⌜ Changes k (rules.withUpdates n) (now (t .entry)) (now (t .exit)) ⌝ }
+{
+    put_word(t, k, 24, words::of_short(n))
 }
 
 pub fn put_alignment(t: &mut [usize], k: usize, a: Alignment)

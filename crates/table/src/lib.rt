@@ -1,4 +1,4 @@
-// The peer slots in a lent table of words, 24 for each slot: read and put one at a time, so that no event copies them all.
+// The peer slots in a lent table of words, 25 for each slot: read and put one at a time, so that no event copies them all.
 ghost use mathlib.Core.Path.{_≡_};
 ghost use Prim.Native.Nat.{ℕ, _<_};
 ghost use lib.ListN.{length, getD};
@@ -22,14 +22,14 @@ pub fn used_at(t: &[usize], k: usize) -> bool
     requires { ⌜ (length (now t) ≡ tableSize) × (k < 8) ⌝ }
     ensures { λ r. ⌜ r ≡ slotIn (now (t .entry)) k .used ⌝ }
 {
-    words::flag(t[k * 24])
+    words::flag(t[k * 25])
 }
 
 pub fn peer_at(t: &[usize], k: usize) -> [u8; 4]
     requires { ⌜ (length (now t) ≡ tableSize) × (k < 8) ⌝ }
     ensures { λ r. ⌜ r ≡ slotIn (now (t .entry)) k .peer ⌝ }
 {
-    let at = k * 24;
+    let at = k * 25;
     [
         words::octet(t[at + 1]),
         words::octet(t[at + 2]),
@@ -42,21 +42,21 @@ pub fn hello_at(t: &[usize], k: usize) -> HelloState
     requires { ⌜ (length (now t) ≡ tableSize) × (k < 8) ⌝ }
     ensures { λ r. ⌜ r ≡ slotIn (now (t .entry)) k .link .hello ⌝ }
 {
-    words::hello(t[k * 24 + 5])
+    words::hello(t[k * 25 + 5])
 }
 
 pub fn alignment_at(t: &[usize], k: usize) -> Alignment
     requires { ⌜ (length (now t) ≡ tableSize) × (k < 8) ⌝ }
     ensures { λ r. ⌜ r ≡ slotIn (now (t .entry)) k .link .alignment ⌝ }
 {
-    words::alignment(t[k * 24 + 9])
+    words::alignment(t[k * 25 + 9])
 }
 
 fn last_at(t: &[usize], k: usize) -> CaHead
     requires { ⌜ (length (now t) ≡ tableSize) × (k < 8) ⌝ }
     ensures { λ r. ⌜ r ≡ slotIn (now (t .entry)) k .link .last ⌝ }
 {
-    let at = k * 24;
+    let at = k * 25;
     let flags = CaFlags {
         master: words::flag(t[at + 13]),
         initial: words::flag(t[at + 14]),
@@ -72,7 +72,7 @@ pub fn link_at(t: &[usize], k: usize) -> Link
     requires { ⌜ (length (now t) ≡ tableSize) × (k < 8) ⌝ }
     ensures { λ r. ⌜ r ≡ slotIn (now (t .entry)) k .link ⌝ }
 {
-    let at = k * 24;
+    let at = k * 25;
     let hello = hello_at(t, k);
     let alignment = alignment_at(t, k);
     let role = words::role(t[at + 10]);
@@ -95,7 +95,7 @@ fn timers_at(t: &[usize], k: usize) -> Timers
     requires { ⌜ (length (now t) ≡ tableSize) × (k < 8) ⌝ }
     ensures { λ r. ⌜ r ≡ slotIn (now (t .entry)) k .timers ⌝ }
 {
-    let at = k * 24;
+    let at = k * 25;
     let hello = words::last_sent(t[at + 17]);
     let ca = words::last_sent(t[at + 18]);
     let csus = words::last_sent(t[at + 19]);
@@ -112,7 +112,7 @@ pub fn slot_at(t: &[usize], k: usize) -> Slot
     requires { ⌜ (length (now t) ≡ tableSize) × (k < 8) ⌝ }
     ensures { λ r. ⌜ r ≡ slotIn (now (t .entry)) k ⌝ }
 {
-    let at = k * 24;
+    let at = k * 25;
     let peer = peer_at(t, k);
     let link = link_at(t, k);
     let timers = timers_at(t, k);
@@ -124,11 +124,12 @@ pub fn slot_at(t: &[usize], k: usize) -> Slot
         listed: t[at + 21],
         cursor: words::number(t[at + 22]),
         missed: words::short(t[at + 23]),
+        updates: words::short(t[at + 24]),
     }
 }
 
 // ---- a slot put
-fn words_of(x: Slot) -> [usize; 24]
+fn words_of(x: Slot) -> [usize; 25]
     ensures { λ r. ⌜ slotFrom (λ i. getD r i 0) ≡ x ⌝ }
 {
     let peer = x.peer;
@@ -170,6 +171,7 @@ fn words_of(x: Slot) -> [usize; 24]
         x.listed,
         words::of_number(x.cursor),
         words::of_short(x.missed),
+        words::of_short(x.updates),
     ]
 }
 
@@ -178,9 +180,9 @@ pub fn put_slot(t: &mut [usize], k: usize, x: Slot)
     ensures { λ _. ⌜ ((j : ℕ) → slotIn (now (t .exit)) j ≡ on k x (slotIn (now (t .entry))) j) ⌝ }
 {
     let words = words_of(x);
-    let at = k * 24;
+    let at = k * 25;
     let mut i: usize = 0;
-    while i < 24 {
+    while i < 25 {
         t[at + i] = words[i];
         i += 1;
     }

@@ -1,9 +1,15 @@
-// Replays lists of events and prints, behind each line, the octets written at that event. Input: for each list how many records it has
-// (4 octets), then the records. For tests: the lines are compared with those of the reference.
+// Replays lists of events and prints, behind each line, the octets written at that event and the state of the slot that the record's second octet
+// names. Input: for each list how many records it has (4 octets), then the records. For tests: the lines are compared with those of the reference.
 ghost use mathlib.Core.Path.{_≡_};
 ghost use Prim.Native.Nat.{_+_, _*_, _≤_};
 ghost use lib.ListN.{length};
+use protocol::Alignment;
+use protocol::HelloState;
+use protocol::Role;
 use server::answers::Answer;
+use server::queries;
+use server::queries::SlotState;
+use server::queries::Status;
 use slots::state::Server;
 
 fn hex_digit(n: u8) -> u8
@@ -22,14 +28,14 @@ fn put_octet(text: &mut [u8], at: usize, x: u8)
     text[at + 1] = hex_digit(x % 16);
 }
 
-// The octets in hexadecimal, `-` for none, and a line end: the place behind them.
+// The octets in hexadecimal, `-` for none, and a space: the place behind them.
 fn put_octets(text: &mut [u8], from: usize, p: &[u8]) -> usize
     requires { ⌜ from + (length (now p) * 2 + 2) ≤ length (now text) ⌝ }
     ensures { λ r. ⌜ r ≤ from + (length (now (p .entry)) * 2 + 2) ⌝ }
 {
     if p.len() == 0 {
         text[from] = 45;
-        text[from + 1] = 10;
+        text[from + 1] = 32;
         return from + 2;
     }
     let mut at = from;
@@ -39,7 +45,7 @@ fn put_octets(text: &mut [u8], from: usize, p: &[u8]) -> usize
         at += 2;
         i += 1;
     }
-    text[at] = 10;
+    text[at] = 32;
     at + 1
 }
 
@@ -56,38 +62,116 @@ fn put_numbers(text: &mut [u8], number: u64, code: u8, written: usize, used: usi
     n
 }
 
-// A line, and the octets written behind it.
-fn put_answer(text: &mut [u8], number: u64, a: Answer, used: usize, out: &[u8]) -> usize
+// ---- a slot's state
+fn hello_number(h: HelloState) -> u64 {
+    match h {
+        HelloState::Down => 0,
+        HelloState::Waiting => 1,
+        HelloState::Unidirectional => 2,
+        HelloState::Bidirectional => 3,
+    }
+}
+
+fn alignment_number(a: Alignment) -> u64 {
+    match a {
+        Alignment::Down => 0,
+        Alignment::Negotiate => 1,
+        Alignment::Summarize(_) => 2,
+        Alignment::Update => 3,
+        Alignment::Aligned => 4,
+    }
+}
+
+fn role_number(r: Role) -> u64 {
+    match r {
+        Role::Master => 1,
+        Role::Slave => 2,
+    }
+}
+
+// There is no role before Summarize.
+fn role_in(a: Alignment, r: Role) -> u64 {
+    if alignment_number(a) < 2 {
+        return 0;
+    }
+    role_number(r)
+}
+
+fn put_states(text: &mut [u8], at: usize, x: SlotState) -> usize
+    requires { ⌜ at + 63 ≤ length (now text) ⌝ }
+    ensures { λ r. ⌜ r ≤ at + 63 ⌝ }
+{
+    let hello = x.hello;
+    let alignment = x.alignment;
+    let role = x.role;
+    let second = lines::text::put_number(text, at, hello_number(hello), 32);
+    let third = lines::text::put_number(text, second, alignment_number(alignment), 32);
+    lines::text::put_number(text, third, role_in(alignment, role), 32)
+}
+
+fn put_counts(text: &mut [u8], at: usize, x: SlotState) -> usize
+    requires { ⌜ at + 42 ≤ length (now text) ⌝ }
+    ensures { λ r. ⌜ r ≤ at + 42 ⌝ }
+{
+    let second = lines::text::put_number(text, at, x.updates as u64, 32);
+    lines::text::put_number(text, second, x.missed as u64, 10)
+}
+
+// Hello and alignment state, role, update requests, missed; `-` for no peer; and a line end.
+fn put_state(text: &mut [u8], at: usize, s: Status) -> usize
+    requires { ⌜ at + 105 ≤ length (now text) ⌝ }
+    ensures { λ r. ⌜ r ≤ at + 105 ⌝ }
+{
+    match s {
+        Status::Refused(_) => octets::put(text, at, &[45u8, 10]),
+        Status::Shown(x) => {
+            let behind = put_states(text, at, x);
+            put_counts(text, behind, x)
+        }
+    }
+}
+
+// A line, the octets written and the slot's state behind it.
+fn put_answer(
+    text: &mut [u8],
+    number: u64,
+    a: Answer,
+    used: usize,
+    out: &[u8],
+    state: Status,
+) -> usize
     requires { ⌜ (length (now text) ≡ 1024) × (length (now out) ≡ 284) ⌝ }
     ensures { λ r. ⌜ r ≤ 1024 ⌝ }
 {
     let outcome = a.outcome;
     let code = slots::answers::code(outcome);
     let n = put_numbers(text, number, code, a.written, used);
-    put_octets(text, n, octets::first(out, a.written))
+    let at = put_octets(text, n, octets::first(out, a.written));
+    put_state(text, at, state)
 }
 
-fn line(number: u64, a: Answer, memory: &[u8; 21504], out: &[u8; 284]) {
+fn line(number: u64, a: Answer, memory: &[u8; 21504], out: &[u8; 284], state: Status) {
     let mut text = [0u8; 1024];
-    let used = server::queries::rows_used(memory);
-    let end = put_answer(&mut text, number, a, used, out);
+    let used = queries::rows_used(memory);
+    let end = put_answer(&mut text, number, a, used, out, state);
     io::write_all(1, &text[..end]);
 }
 
 fn record(
     s: Server,
-    slots: &mut [usize; 192],
+    slots: &mut [usize; 200],
     memory: &mut [u8; 21504],
     r: &[u8],
     number: u64,
 ) -> Server {
     let mut out = [0u8; 284];
     let a = lines::take::take(s, slots, memory, r, &mut out);
-    line(number, a, memory, &out);
+    let state = queries::status_of(slots, octets::octet(r, 1) as usize);
+    line(number, a, memory, &out, state);
     a.server
 }
 
-fn records(s: Server, slots: &mut [usize; 192], memory: &mut [u8; 21504], count: u32) {
+fn records(s: Server, slots: &mut [usize; 200], memory: &mut [u8; 21504], count: u32) {
     let mut input = [0u8; 292];
     let mut x = s;
     let mut i: u32 = 1;
@@ -101,7 +185,7 @@ fn records(s: Server, slots: &mut [usize; 192], memory: &mut [u8; 21504], count:
     }
 }
 
-fn list(slots: &mut [usize; 192], memory: &mut [u8; 21504], count: u32) {
+fn list(slots: &mut [usize; 200], memory: &mut [u8; 21504], count: u32) {
     let mut input = [0u8; 292];
     let n = io::read_full(0, &mut input);
     let first = lines::take::begin(slots, memory, octets::first(&input, n));
@@ -111,12 +195,13 @@ fn list(slots: &mut [usize; 192], memory: &mut [u8; 21504], count: u32) {
         return;
     }
     let out = [0u8; 284];
-    line(0, first, memory, &out);
+    let state = queries::status_of(slots, octets::octet(&input, 1) as usize);
+    line(0, first, memory, &out, state);
     records(first.server, slots, memory, count);
 }
 
 fn main() {
-    let mut slots = [0usize; 192];
+    let mut slots = [0usize; 200];
     let mut memory = [0u8; 21504];
     let mut head = [0u8; 4];
     let mut turns = u64::MAX;

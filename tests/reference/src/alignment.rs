@@ -16,11 +16,15 @@ impl Server {
                 Rule::DownEmptiesMissed,
             ],
         );
+        if self.slot(p).updates > 0 {
+            self.rules.note(Rule::UpdatesDown);
+        }
         self.slot_mut(p).alignment = Alignment::Down;
     }
 
-    /// Entering Negotiate also adds one to the slot's CA number, and starts
-    /// the timers and the going round anew (01 'Poll').
+    /// Entering Negotiate also adds one to the slot's CA number, starts the
+    /// timers and the going round anew (01 'Poll'), and the count of update
+    /// requests (02, L1), which entering Down leaves.
     pub(crate) fn enter_negotiate(&mut self, p: usize) {
         let emptied = self.empty_lists(p);
         self.note_emptied(
@@ -32,8 +36,12 @@ impl Server {
                 Rule::NegotiateEmptiesMissed,
             ],
         );
+        if self.slot(p).updates > 0 {
+            self.rules.note(Rule::UpdatesNegotiate);
+        }
         let slot = self.slot_mut(p);
         slot.alignment = Alignment::Negotiate;
+        slot.updates = 0;
         slot.ca_number = slot.ca_number.one_more();
         slot.ca_sent = None;
         slot.csus_sent = None;

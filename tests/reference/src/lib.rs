@@ -1,4 +1,4 @@
-//! A reference for the directory server of document 01, written from the
+//! A reference for the directory server of documents 01 and 02, written from the
 //! papers and the readings settled in docs/DECISIONS.md: packets (`wire`), the state and its eight events (`state`
 //! and `server`, with the rules of 01 section by section in `hello`,
 //! `alignment`, `requests`, `updates` and `poll`), and the replay program

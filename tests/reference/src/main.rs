@@ -1,5 +1,6 @@
 //! Reads a replay file on standard input and prints its lines; `--octets`
-//! prints behind each line the octets written at that event.
+//! prints behind each line the octets written at that event, and the state of
+//! the slot that the record's second octet names.
 
 use reference::replay;
 use std::io::{self, Read, Write};

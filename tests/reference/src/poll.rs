@@ -159,6 +159,10 @@ impl Server {
         let slot = self.slot_mut(p);
         slot.csu_sent = Some(time);
         slot.round = (next[next.len() - 1] + 1) % ROWS;
+        match slot.updates.checked_add(1) {
+            Some(more) => slot.updates = more,
+            None => self.rules.note(Rule::UpdatesStop),
+        }
         Some(octets)
     }
 

@@ -2,7 +2,7 @@
 
 use crate::answer::Code;
 use crate::rule::RuleSet;
-use crate::server::{Alignment, HelloState, Role, Server, Settings};
+use crate::server::{Alignment, HelloState, Role, Server, Settings, Status};
 use crate::wire::MAX_PACKET;
 use std::fmt;
 
@@ -95,13 +95,15 @@ impl Event {
     }
 }
 
-/// Event number, code, octets written, rows used.
+/// Event number, code, octets written, rows used; and the state of the slot
+/// that the record's second octet names, if it has a peer.
 #[derive(Clone, PartialEq, Eq, Debug)]
 pub struct Line {
     pub event: usize,
     pub code: Code,
     pub written: Vec<u8>,
     pub rows: usize,
+    pub status: Option<Status>,
 }
 
 impl fmt::Display for Line {
@@ -111,7 +113,8 @@ impl fmt::Display for Line {
 }
 
 impl Line {
-    /// The line, then the octets written in hexadecimal, `-` where none.
+    /// The line, then the octets written in hexadecimal, `-` where none, then
+    /// the slot's state.
     pub fn with_octets(&self) -> String {
         let mut line = format!("{self} ");
         if self.written.is_empty() {
@@ -122,7 +125,10 @@ impl Line {
                 line.push(char::from(b"0123456789abcdef"[usize::from(digit)]));
             }
         }
-        line
+        match self.status {
+            Some(status) => line + " " + &state(status),
+            None => line + " -",
+        }
     }
 }
 
@@ -161,6 +167,21 @@ fn alignment_bit(alignment: Alignment) -> u32 {
     }
 }
 
+/// The Hello state from 0 (Down), the alignment state from 0 (Down), the role
+/// (0 before Summarize, 1 master, 2 slave), update requests, missed.
+fn state(status: Status) -> String {
+    let role = |role: Role| if role == Role::Master { 1 } else { 2 };
+    let (alignment, role) = match status.alignment {
+        Alignment::Down => (0, 0),
+        Alignment::Negotiate => (1, 0),
+        Alignment::Summarize(r) => (2, role(r)),
+        Alignment::Update(r) => (3, role(r)),
+        Alignment::Aligned(r) => (4, role(r)),
+    };
+    let hello = hello_bit(status.hello);
+    format!("{hello} {alignment} {role} {} {}", status.updates, status.missed)
+}
+
 fn hello_bit(state: HelloState) -> u32 {
     match state {
         HelloState::Down => 0,
@@ -191,8 +212,10 @@ impl Replay {
             None => return None,
             Some(server) => step(server, event, &mut out),
         };
-        let rows = self.server.as_ref()?.rows_used();
-        let line = Line { event: self.events, code, written: out[..written].to_vec(), rows };
+        let server = self.server.as_ref()?;
+        let (rows, status) = (server.rows_used(), server.status(event.slot).ok());
+        let written = out[..written].to_vec();
+        let line = Line { event: self.events, code, written, rows, status };
         self.events += 1;
         self.look(code);
         Some(line)

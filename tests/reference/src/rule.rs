@@ -1,4 +1,4 @@
-//! The clauses of 01, one name each. The server records those it applies,
+//! The clauses of 01 and 02, one name each. The server records those it applies,
 //! so that a test can say which clauses a list of events takes.
 
 macro_rules! rules {
@@ -191,6 +191,10 @@ rules! {
     PollCsuRound: "CSU Request: going round",
     PollCsuEarly: "a row waits, 1 second has not passed: nothing",
     PollNothing: "nothing is due",
+    // 02, L1: the count of update requests written at polls
+    UpdatesDown: "entering Down leaves the count of update requests",
+    UpdatesNegotiate: "entering Negotiate sets the count of update requests to 0",
+    UpdatesStop: "the count of update requests stops at 65535",
 }
 
 const WORDS: usize = Rule::ALL.len().div_ceil(64);

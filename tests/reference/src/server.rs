@@ -44,6 +44,19 @@ impl Server {
         Code::Taken
     }
 
+    /// 02, L1: the state of a slot, with its counts; 1 for a slot without
+    /// peer.
+    pub fn status(&self, slot: u8) -> Result<Status, Code> {
+        let slot = self.slots.get(usize::from(slot)).and_then(|slot| slot.as_ref());
+        let slot = slot.ok_or(Code::NoPeer)?;
+        Ok(Status {
+            hello: slot.hello,
+            alignment: slot.alignment,
+            updates: slot.updates,
+            missed: slot.missed,
+        })
+    }
+
     pub fn link_up(&mut self, slot: u8, time: u32) -> Code {
         match self.try_slot_and_time(slot, time) {
             Err(code) => code,

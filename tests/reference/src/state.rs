@@ -89,6 +89,18 @@ pub struct Slot {
     pub csu_sent: Option<u32>,
     /// The row at which the next CSU Request of a poll starts to look.
     pub round: usize,
+    /// CSU Requests written at polls since the slot last entered Negotiate, up
+    /// to 65535 (02, L1).
+    pub updates: u16,
+}
+
+/// What a slot reports (02, L1). The role is part of the alignment.
+#[derive(Clone, Copy, PartialEq, Eq, Debug)]
+pub struct Status {
+    pub hello: HelloState,
+    pub alignment: Alignment,
+    pub updates: u16,
+    pub missed: u16,
 }
 
 impl Slot {
@@ -110,6 +122,7 @@ impl Slot {
             csus_sent: None,
             csu_sent: None,
             round: 0,
+            updates: 0,
         }
     }
 }

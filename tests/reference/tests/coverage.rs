@@ -18,9 +18,10 @@ fn every_code_state_and_rule_is_reached() {
             all.states |= printed.seen.states;
         }
     }
-    // Missed stops after some 16400 packets, and the replay program always
-    // lends 284 octets: tests/marked.rs has both.
-    assert_eq!(all.rules.missing(), [Rule::MissedStops]);
+    // Missed stops after some 16400 packets, the count of update requests
+    // after 65535 polls, and the replay program always lends 284 octets:
+    // tests/marked.rs and tests/drain.rs have them.
+    assert_eq!(all.rules.missing(), [Rule::MissedStops, Rule::UpdatesStop]);
     assert_eq!(all.codes, 0x7FFFF & !(1 << 3));
     assert_eq!(all.states, (1 << STATES.len()) - 1);
 }

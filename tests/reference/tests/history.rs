@@ -1,10 +1,10 @@
 //! The history of 01 'Updates' beside the server: entries held, and puts and
-//! takes, from each event's arguments and code. Only the slots' states are
-//! the server's.
+//! takes, from each event's arguments and code; and of 02, L1, the update
+//! requests written at polls. Only the slots' states are the server's.
 
 use reference::answer::Code;
 use reference::generate::{kinds::KINDS, list};
-use reference::replay::{Event, Replay, PACKET, PURGE, RECORD, SET, WITHDRAW};
+use reference::replay::{Event, Line, Replay, PACKET, POLL, PURGE, RECORD, SET, WITHDRAW};
 use reference::server::{Alignment, Server, SLOTS};
 use reference::wire::{read, Body, Id, Record};
 use std::collections::BTreeMap;
@@ -21,6 +21,7 @@ struct Held {
 struct History {
     us: Id,
     held: BTreeMap<(Vec<u8>, Id), Held>,
+    updates: [u64; SLOTS],
 }
 
 /// Slots in Summarize, Update or Aligned.
@@ -98,6 +99,20 @@ impl History {
         self.held.retain(|_, held| held.number != 2147483647 || held.waits.contains(&true));
     }
 
+    /// One more for a CSU Request written at a poll; none from Negotiate on.
+    fn count(&mut self, event: &Event, line: &Line, server: &Server) {
+        if event.kind == POLL && line.written.get(1) == Some(&2) {
+            self.updates[usize::from(event.slot)] += 1;
+        }
+        for (p, slot) in server.slots.iter().enumerate() {
+            let Some(slot) = slot else { continue };
+            if slot.alignment == Alignment::Negotiate {
+                self.updates[p] = 0;
+            }
+            assert_eq!(u64::from(slot.updates), self.updates[p].min(65535));
+        }
+    }
+
     fn is_held_by(&self, server: &Server) {
         let rows = server.rows.iter().flatten().map(|row| {
             let payload = row.payload.part().to_vec();
@@ -115,10 +130,10 @@ fn run_beside(file: &[u8]) {
     for record in file.chunks_exact(RECORD) {
         let event = Event::read(record.try_into().unwrap());
         let late = replay.server.as_ref().map(takes_puts);
-        let code = replay.event(&event).unwrap().code;
+        let line = replay.event(&event).unwrap();
         let server = replay.server.as_ref().unwrap();
         history.us = server.settings.id;
-        if let (Code::Taken, Some(late)) = (code, late) {
+        if let (Code::Taken, Some(late)) = (line.code, late) {
             match event.kind {
                 SET | WITHDRAW | PURGE => history.ours(&event, late),
                 PACKET => history.packet(&event, late),
@@ -127,6 +142,7 @@ fn run_beside(file: &[u8]) {
         }
         history.end(takes_puts(server));
         history.is_held_by(server);
+        history.count(&event, &line, server);
     }
 }
 

@@ -44,11 +44,11 @@ fn prints_the_listing() {
 }
 
 #[test]
-fn prints_the_octets() {
+fn prints_the_octets_and_the_state() {
     let hello = "01050020f0c20000000a0003000000000002000700000000040000000a000002";
     let text = program(&["--octets"], &listing());
-    assert_eq!(text.lines().nth(3), Some(format!("3 0 32 0 {hello}").as_str()));
-    assert_eq!(text.lines().nth(6), Some("6 18 0 1 -"));
+    assert_eq!(text.lines().nth(3), Some(format!("3 0 32 0 {hello} 1 0 0 0 0").as_str()));
+    assert_eq!(text.lines().nth(6), Some("6 18 0 1 - -"));
 }
 
 #[test]

@@ -24,9 +24,9 @@ fn recorded_lists_print_their_lines_and_take_all() {
         }
     }
     assert_eq!(lists, 41);
-    // A short list misses fewer than 65535 requests; code 3 needs a buffer
-    // that the replay program does not lend.
-    assert_eq!(all.rules.missing(), [Rule::MissedStops]);
+    // A short list misses fewer than 65535 requests and polls less often;
+    // code 3 needs a buffer that the replay program does not lend.
+    assert_eq!(all.rules.missing(), [Rule::MissedStops, Rule::UpdatesStop]);
     assert_eq!(all.codes, 0x7FFFF & !(1 << 3));
     assert_eq!(all.states, (1 << STATES.len()) - 1);
 }

@@ -33,7 +33,7 @@ loop-again c =
 returns : tie.Need-returns Inv-loop μ-loop
 returns c =
     let inv = c .before .loop .inv in
-    λ k. slot-words _ k (λ _. 0) (λ i l. all-zero (c .before .loop .t) (λ n h. inv .2 n (omega arith)) (k * 24 + i))
+    λ k. slot-words _ k (λ _. 0) (λ i l. all-zero (c .before .loop .t) (λ n h. inv .2 n (omega arith)) (k * 25 + i))
 
 pub clear-spec : {M : Type 1} → statement M
 clear-spec =

@@ -7,10 +7,10 @@ use Rattle.table.proofs.put_slot.Statement.{statement}
 use Rattle.table.proofs.put_slot.Tie as tie
 
 abbrev Inv-loop : tie.InvT-loop
-Inv-loop t₀ k words at i₀ t i = (i ≤ 24) × Copied words at t₀ i t
+Inv-loop t₀ k words at i₀ t i = (i ≤ 25) × Copied words at t₀ i t
 
 abbrev μ-loop : tie.MeasureT-loop
-μ-loop t₀ k words at i₀ t i = 24 - i
+μ-loop t₀ k words at i₀ t i = 25 - i
 
 words-of-requires : tie.Need-words-of-requires Inv-loop μ-loop
 words-of-requires c κs = tt

@@ -7,13 +7,15 @@ use Rattle.table.proofs.slot_at.Tie as tie
 returns : tie.Need-returns
 unfolding slotIn
 returns c =
-    let at-number = c .before .before in
+    let at-short = c .before .before in
+    let at-number = at-short .before .before in
     let at-used-at = at-number .before .before .before in
     let at-timers-at = at-used-at .before in
     let at-link-at = at-timers-at .before in
     let at-peer-at = at-link-at .before in
     rw (
-      c .short .ensures,
+      c .short2 .ensures,
+      at-short .short .ensures,
       at-number .number .ensures,
       at-used-at .used-at .ensures,
       at-timers-at .timers-at .ensures,
@@ -33,6 +35,10 @@ slot-at-spec =
     (λ c. search needs)
     (λ c. search needs)
     (λ c. search needs)
+    (λ c. search needs)
+    (λ c. search needs)
+    (λ c. search needs)
+    (λ c κs. search needs)
     (λ c. search needs)
     (λ c. search needs)
     (λ c. search needs)

@@ -13,7 +13,7 @@ four-octets c = elements 0 (c .args .x .peer) 4 (search needs)
 
 returns : tie.Need-returns
 returns c =
-    let times = c .before .before in
+    let times = c .before .before .before in
     let flags = times .before .before .before .before in
     let numbers = flags .before .before .before .before in
     let sizes = numbers .before .before .before .before in
@@ -50,8 +50,9 @@ returns c =
         update = (times .of-last4 .ensures) z;
       };
       listed = start .args .x .listed;
-      cursor = (c .before .of-number4 .ensures) z;
-      missed = (c .of-short3 .ensures) z;
+      cursor = (c .before .before .of-number4 .ensures) z;
+      missed = (c .before .of-short3 .ensures) z;
+      updates = (c .of-short4 .ensures) z;
     }
 
 pub words-of-spec : {M : Type 1} → statement M
@@ -66,6 +67,7 @@ words-of-spec =
     (λ c. search needs)
     (λ c κs. search needs)
     (λ c. search needs)
+    (λ c κs. search needs)
     (λ c κs. search needs)
     (λ c κs. search needs)
     (λ c κs. search needs)

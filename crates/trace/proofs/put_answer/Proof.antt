@@ -1,4 +1,4 @@
--- The answer's numbers and octets, one line.
+-- The answer's numbers and octets and the slot's state, one line.
 use Rattle.laws.proofs.Lists.{take-short}
 use lib.ListN.{length}
 use Prim.Native.Nat.{_≤_}
@@ -18,8 +18,18 @@ few c =
 put-octets-requires : tie.Need-put-octets-requires
 put-octets-requires c κs = omega (arith, few c)
 
+put-state-requires : tie.Need-put-state-requires
+put-state-requires c κs =
+    let at-put-octets = c .before .before .before in
+    let at-first = at-put-octets .before in
+    omega (arith, few at-first, at-put-octets .put-octets .ensures)
+
 returns : tie.Need-returns
-returns c = omega (arith, few (c .before .before .before), c .before .before .put-octets .ensures)
+returns c =
+    let at-put-state = c .before .before in
+    let at-put-octets = at-put-state .before .before .before .before in
+    let at-first = at-put-octets .before in
+    omega (arith, few at-first, at-put-octets .put-octets .ensures, at-put-state .put-state .ensures)
 
 pub put-answer-spec : {M : Type 1} → statement M
 put-answer-spec =
@@ -29,5 +39,6 @@ put-answer-spec =
     (λ c κs. search needs)
     (λ c κs. search needs)
     put-octets-requires
+    put-state-requires
     (λ c. search needs)
     returns)

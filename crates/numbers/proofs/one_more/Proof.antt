@@ -1,8 +1,8 @@
 use borrow.Author.Tests.{lt-ltb, le-ltb}
 use native.Mathlib.Numerals.{add-one}
 use borrow.Author.Needs.{needs}
-use Rattle.memory.proofs.requests.one_more.Statement.{statement}
-use Rattle.memory.proofs.requests.one_more.Tie as tie
+use Rattle.numbers.proofs.one_more.Statement.{statement}
+use Rattle.numbers.proofs.one_more.Tie as tie
 
 returns : tie.Need-returns
 returns c = rw (lt-ltb _ _ (c .if1 .taken), add-one)
