@@ -41,3 +41,4 @@ pub mod WrittenPacket
 pub mod Drain
 pub mod Rounds
 pub mod Drained
+pub mod DrainCase

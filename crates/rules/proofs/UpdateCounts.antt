@@ -39,7 +39,7 @@ use Rattle.rules.specs.Poll.{dueOf, dueSent, keptDropped, checked, pollS
 use Rattle.rules.specs.Events.{Event, addPeer, linkUp, linkDown, packet, poll, set, withdraw, purge, counts, codeOf, placeOf, liveIn, readSlot}
 use Rattle.rules.specs.Events.{peerSlot, slotAfter, slotsAfter, sentBy, acted, writtenAt}
 use Rattle.rules.specs.SlotHistory.{SlotHistory, isRequestType, stateAt}
-use Rattle.rules.specs.History.{History, sinceIn, updatesAfter}
+use Rattle.rules.specs.History.{History, isNegotiate, sinceIn, updatesAfter}
 use Rattle.rules.specs.Demand3.{cutOff}
 use Rattle.rules.proofs.Relation.{pastAs, seenOf}
 use Rattle.rules.proofs.RequestBack.{not-hello, not-ca, not-csus}
@@ -60,29 +60,22 @@ one-cut n = by (ltb n 65535) refl where
   by true e = rw e (rw e (last (ltb-true n 65535 e) (ltb (suc n) 65535) refl))
   by false e = let h : 65535 ≤ n = ltb-false n 65535 e in rw (e, le-ltb (suc n) 65535 (omega arith)) refl
 
-updates-cut : (a : Alignment) (n : ℕ) → updatesIn a (cutOff n) ≡ cutOff (updatesIn a n)
-updates-cut Down n = refl
-updates-cut Negotiate n = refl
-updates-cut (Summarize r) n = refl
-updates-cut Update n = refl
-updates-cut Aligned n = refl
-
 since-cut : (a b : Alignment) (n : ℕ) → sinceIn a b (cutOff n) ≡ cutOff (sinceIn a b n)
-since-cut a b n = by (enters a b) where
-  by : (e : Bool) → pick e (updatesIn b (cutOff n)) (cutOff n) ≡ cutOff (pick e (updatesIn b n) n)
-  by true = updates-cut b n
+since-cut a b n = by (enters a b && isNegotiate b) where
+  by : (e : Bool) → pick e 0 (cutOff n) ≡ cutOff (pick e 0 n)
+  by true = refl
   by false = refl
 
 -- ---- the count does not tell Aligned from Update
-updates-past : (a : Alignment) (n : ℕ) → updatesIn (pastAs a) n ≡ updatesIn a n
-updates-past Down n = refl
-updates-past Negotiate n = refl
-updates-past (Summarize r) n = refl
-updates-past Update n = refl
-updates-past Aligned n = refl
+negotiate-past : (a : Alignment) → isNegotiate (pastAs a) ≡ isNegotiate a
+negotiate-past Down = refl
+negotiate-past Negotiate = refl
+negotiate-past (Summarize r) = refl
+negotiate-past Update = refl
+negotiate-past Aligned = refl
 
 since-past : (a b : Alignment) (n : ℕ) → sinceIn (pastAs a) (pastAs b) n ≡ sinceIn a b n
-since-past a b n = λ i. pick (enters-past a b i) (updates-past b n i) n
+since-past a b n = λ i. pick (enters-past a b i && negotiate-past b i) 0 n
 
 -- ---- a slot that moves
 abbrev Counts : Slot → Slot → Type 0
@@ -91,10 +84,17 @@ Counts x y = y .updates ≡ sinceIn (pastAs (x .link .alignment)) (pastAs (y .li
 counts-still : (x : Slot) → Counts x x
 counts-still x = rw (enters-same (pastAs (x .link .alignment))) refl
 
+updates-as : (a : Alignment) (n : ℕ) → updatesIn a n ≡ pick (isNegotiate a) 0 n
+updates-as Down n = refl
+updates-as Negotiate n = refl
+updates-as (Summarize r) n = refl
+updates-as Update n = refl
+updates-as Aligned n = refl
+
 moved-updates : (l : Link) (x : Slot) → moved l x .updates ≡ sinceIn (x .link .alignment) (l .alignment) (x .updates)
 moved-updates l x = by (enters (x .link .alignment) (l .alignment)) where
-  by : (b : Bool) → pick b (emptied (withLink l x)) (withLink l x) .updates ≡ pick b (updatesIn (l .alignment) (x .updates)) (x .updates)
-  by true = refl
+  by : (b : Bool) → pick b (emptied (withLink l x)) (withLink l x) .updates ≡ pick (b && isNegotiate (l .alignment)) 0 (x .updates)
+  by true = updates-as (l .alignment) (x .updates)
   by false = refl
 
 counts-moved : (l : Link) (x : Slot) → Counts x (moved l x)

@@ -9,6 +9,7 @@ use lib.ListN.{length, replicate}
 use Rattle.laws.specs.Choice.{pick}
 use Rattle.laws.specs.Tables.{on, has, update, without}
 use Rattle.protocol.specs.declared.Alignment.{Alignment}
+use Rattle.protocol.specs.declared.Alignment.the-variants.{Down, Negotiate, Summarize, Update, Aligned}
 use Rattle.protocol.specs.Sizes.{idLength}
 use Rattle.protocol.specs.Numbers.{newer, nextCsa, firstNumber, purged}
 use Rattle.protocol.specs.Messages.{CsaRecord, Body, ca, csuRequest, csuReply, csus, hello}
@@ -18,7 +19,6 @@ use Rattle.rules.specs.Links.{enters}
 use Rattle.rules.specs.Rows.{isPurged, anySlot}
 use Rattle.rules.specs.Requests.{entryOf}
 use Rattle.rules.specs.Updates.{hopsMost, value, stepped, valueOf}
-use Rattle.rules.specs.Slots.{updatesIn}
 use Rattle.rules.specs.Refusals.{ownEntry}
 use Rattle.rules.specs.Events.{Event, addPeer, linkUp, linkDown, packet, poll, set, withdraw, purge, counts, Place, inSlot, nowhere, placeOf, Item}
 use Rattle.rules.specs.SlotHistory.{SlotHistory, unusedSlot, isRequestType, slotHistoriesAfter, stateAt, liveStates}
@@ -183,8 +183,15 @@ entriesLeft (inSlot k) before after es = leftIf (enters (stateAt before k) (stat
 entriesLeft nowhere before after es = es
 
 -- ---- 'how many requests written at polls the slot's history holds since it last entered Negotiate' (document 02, L1)
+abbrev pub isNegotiate : Alignment → Bool
+isNegotiate Down = false
+isNegotiate Negotiate = true
+isNegotiate (Summarize r) = false
+isNegotiate Update = false
+isNegotiate Aligned = false
+
 abbrev pub sinceIn : Alignment → Alignment → ℕ → ℕ
-sinceIn before after n = pick (enters before after) (updatesIn after n) n
+sinceIn before after n = pick (enters before after && isNegotiate after) 0 n
 
 abbrev pub updatesSince : ℕ → List SlotHistory → List SlotHistory → (ℕ → ℕ) → ℕ
 updatesSince k before after n = sinceIn (stateAt before k) (stateAt after k) (n k)
