@@ -22,7 +22,7 @@ use Rattle.rules.specs.Slots.{withLink, withKept, emptied, moved, passed
 use Rattle.rules.specs.Poll.{caInterval, heldRecord, anUpdate, dueOf, keptDropped, checked}
 use Rattle.rules.specs.Events.{Event, poll, step, writtenAt, itemOf, run}
 use Rattle.rules.specs.Demand3.{isUpdateTo}
-use Rattle.rules.specs.Drain.{waitingFor, NamedIn, Round, pollOf, answerOf, Answers, roundEvents, Drains, Asks}
+use Rattle.rules.specs.Drain.{waitingFor, NamedIn, Round, pollEvent, replyEvent, Answers, roundEvents, Drains, RequestDue}
 use Rattle.rules.proofs.Relation.{Inv}
 use Rattle.rules.proofs.RequestBack.{is-request}
 use Rattle.rules.proofs.PastLaws.{enters-same}
@@ -33,18 +33,18 @@ use Rattle.rules.proofs.Rounds.{asked-rows, asked-records, reply-few, a
 
 -- ---- one request and its reply
 drain-one : (s : Server) → Inv s → KeptCa s → (k : ℕ) (r : Round) → Answers k s r
-    → waitingFor k (step (step s (pollOf k r)) (answerOf k r)) ≡ waitingFor k s - 4
+    → waitingFor k (step (step s (pollEvent k r)) (replyEvent k r)) ≡ waitingFor k s - 4
 drain-one s v kept k r a =
-    let t = step s (pollOf k r) in
-    let w = inv-step s (pollOf k r) v in
-    let same = asked-rows s v kept k (r .polled) (r .poll-room) (a .asks) in
-    let asked = asked-records s v kept k (r .polled) (r .poll-room) (a .asks) in
+    let t = step s (pollEvent k r) in
+    let w = inv-step s (pollEvent k r) v in
+    let same = asked-rows s v kept k (r .poll-time) (r .poll-room) (a .writes) in
+    let asked = asked-records s v kept k (r .poll-time) (r .poll-room) (a .writes) in
     let rs = a .answers in
     let named : All (NamedIn rs) (rowsOf heldRecord (t .rows) (nextWaiting (t .rows) k (slotAt s k .cursor))) =
     rw (same, ← asked) (a .full) in
     let few = reply-few (r .octets) (a .reply) rs (a .reads) (a .is-reply) in
-    ap (count (waitsFor k)) (answer-rows t w k (r .answered) (r .octets) (r .room) (a .taken) (a .reply) (a .reads) rs (a .is-reply))
-    ∙ swept-count k (in-slots t w k (r .answered) (r .octets) (r .room) (a .taken) (a .reply) (a .reads) rs (a .is-reply)) (allReplied k rs (t .rows))
+    ap (count (waitsFor k)) (answer-rows t w k (r .reply-time) (r .octets) (r .reply-room) (a .taken) (a .reply) (a .reads) rs (a .is-reply))
+    ∙ swept-count k (in-slots t w k (r .reply-time) (r .octets) (r .reply-room) (a .taken) (a .reply) (a .reads) rs (a .is-reply)) (allReplied k rs (t .rows))
     ∙ reply-count _ k (t .rows) (w .rows) rs (slotAt s k .cursor) few named
     ∙ ap (λ (rows : List Row). count (waitsFor k) rows - 4) same
 
@@ -55,9 +55,9 @@ drains : (k : ℕ) (rs : List Round) (s : Server) → Inv s → KeptCa s → Dra
     → waitingFor k (run s (roundEvents k rs)) ≡ waitingFor k s - 4 * length rs
 drains k [] s v kept d = omega arith
 drains k (r ∷ rs) s v kept d =
-    let t = step s (pollOf k r) in
-    drains k rs (step t (answerOf k r)) (inv-step t (answerOf k r) (inv-step s (pollOf k r) v))
-    (kept-step t (answerOf k r) (kept-step s (pollOf k r) kept)) (d .1)
+    let t = step s (pollEvent k r) in
+    drains k rs (step t (replyEvent k r)) (inv-step t (replyEvent k r) (inv-step s (pollEvent k r) v))
+    (kept-step t (replyEvent k r) (kept-step s (pollEvent k r) kept)) (d .1)
     ∙ ap (λ (n : ℕ). n - 4 * length rs) (drain-one s v kept k r (d .0)) ∙ one-more (waitingFor k s) (length rs)
 
 -- ---- every server that a list of events leaves
@@ -90,11 +90,11 @@ some-waits p (r ∷ rows) h = by (p r) h (some-waits p rows) where
   by true q rest = refl
   by false q rest = rest q
 
-module _ (s : Server) (k now room : ℕ) (a : Asks k now room s) where
+module _ (s : Server) (k now room : ℕ) (a : RequestDue k now room s) where
   abbrev x : Slot
   x = slotAt s k
 
-  looked : checked now x ≡ x
+  pub looked : checked now x ≡ x
   looked =
       ap (λ (l : Link). moved l x) (a .heard)
       ∙ ap (λ (b : Bool). pick b (emptied (withLink (x .link) x)) (withLink (x .link) x)) (enters-same (x .link .alignment))
@@ -102,14 +102,15 @@ module _ (s : Server) (k now room : ℕ) (a : Asks k now room s) where
   due-by : (y : Slot) → y .link ≡ x .link → y .timers ≡ x .timers → dueOf (s .settings) now (s .rows) k y ≡ anUpdate
   due-by y l t = rw (t, a .no-hello) (rw (l, a .aligned) (rw (a .apart, some-waits (waitsFor k) (s .rows) (a .waits)) refl))
 
-  due : dueOf (s .settings) now (s .rows) k (keptDropped now (checked now x)) ≡ anUpdate
+  pub due : dueOf (s .settings) now (s .rows) k (keptDropped now (checked now x)) ≡ anUpdate
   due =
       rw looked
       (pick-of (λ (y : Slot). dueOf (s .settings) now (s .rows) k y ≡ anUpdate) (isPast (x .link .alignment) && passed caInterval (x .timers .ca) now)
       (withKept [] x) x (due-by (withKept [] x) refl refl) (due-by x refl refl))
 
-  pub asks-again : isUpdateTo k (itemOf s (poll k now room)) ≡ true
+  pub request-written : isUpdateTo k (itemOf s (poll k now room)) ≡ true
   unfolding writtenAt
-  asks-again =
+  request-written =
       rw (eq-eqb k k refl, a .taken, due)
-      (is-request (s .settings) (keptDropped now (checked now x)) (rowsOf heldRecord (s .rows) (nextWaiting (s .rows) k (keptDropped now (checked now x) .cursor))))
+      (is-request (s .settings) (keptDropped now (checked now x))
+      (rowsOf heldRecord (s .rows) (nextWaiting (s .rows) k (keptDropped now (checked now x) .cursor))))

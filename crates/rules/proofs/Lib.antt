@@ -42,3 +42,4 @@ pub mod Drain
 pub mod Rounds
 pub mod Drained
 pub mod DrainCase
+pub mod RoundThere

@@ -15,7 +15,7 @@ use Rattle.protocol.specs.declared.CsaNumber.{CsaNumber}
 use Rattle.protocol.specs.declared.Kind.{Kind}
 use Rattle.protocol.specs.declared.Kind.the-variants.{Ca, CsuRequest, CsuReply, Csus}
 use Rattle.protocol.specs.Sizes.{idLength, recordsMost}
-use Rattle.protocol.specs.Numbers.{newer}
+use Rattle.protocol.specs.Numbers.{newer, oneMore}
 use Rattle.protocol.specs.Messages.{CsaRecord, summaryOf}
 use Rattle.protocol.specs.WellFormed.{GoodRecord, GoodRecords}
 use Rattle.rules.specs.Server.{holds, rowsMost, requestsMost, Entry, Value, Row, free, used, isUsed, waitsFor, rowAt, Request}
@@ -45,11 +45,11 @@ join-good e n w he hn g =
     let q : Request = record { entry = e; number = n } in
     pick-of GoodWanted (has (asks e) (w .requests)) (record { requests = change (asks e) (raised n) (w .requests); missed = w .missed })
     (pick (ltb (length (w .requests)) requestsMost) (record { requests = w .requests ++ (q ∷ []); missed = w .missed })
-    (record { requests = w .requests; missed = pick (ltb (w .missed) 65535) (suc (w .missed)) (w .missed) }))
+    (record { requests = w .requests; missed = oneMore (w .missed) }))
     (all-change GoodRequest (asks e) (raised n) q (w .requests) (raised-good n hn (find (asks e) q (w .requests))) g)
     (pick-of GoodWanted (ltb (length (w .requests)) requestsMost)
     (record { requests = w .requests ++ (q ∷ []); missed = w .missed })
-    (record { requests = w .requests; missed = pick (ltb (w .missed) 65535) (suc (w .missed)) (w .missed) })
+    (record { requests = w .requests; missed = oneMore (w .missed) })
     (all-append GoodRequest (w .requests) (q ∷ []) g (record { entry = he; number = hn }, tt)) g)
 
 number-of : (k : Kind) (r : CsaRecord) → GoodRecord idLength k r → GoodNumber (r .number)

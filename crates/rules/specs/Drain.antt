@@ -32,40 +32,40 @@ pub record NamedIn (answers : List CsaRecord) (r : CsaRecord) : Type 0 where
 
 -- ---- one request: a poll, and the packet that answers it
 pub record Round : Type 0 where
-  pub polled : ℕ
+  pub poll-time : ℕ
   pub poll-room : ℕ
-  pub answered : ℕ
+  pub reply-time : ℕ
   pub octets : List ℕ
-  pub room : ℕ
+  pub reply-room : ℕ
 
-abbrev pub pollOf : ℕ → Round → Event
-pollOf k r = poll k (r .polled) (r .poll-room)
+abbrev pub pollEvent : ℕ → Round → Event
+pollEvent k r = poll k (r .poll-time) (r .poll-room)
 
-abbrev pub answerOf : ℕ → Round → Event
-answerOf k r = packet k (r .answered) (r .octets) (r .room)
+abbrev pub replyEvent : ℕ → Round → Event
+replyEvent k r = packet k (r .reply-time) (r .octets) (r .reply-room)
 
 -- the poll writes a CSU Request, and its 'full reply' is 'taken'
 pub record Answers (k : ℕ) (s : Server) (r : Round) : Type 0 where
-  pub asks : isUpdateTo k (itemOf s (pollOf k r)) ≡ true
-  pub taken : codeOf (step s (pollOf k r)) (answerOf k r) ≡ 0
+  pub writes : isUpdateTo k (itemOf s (pollEvent k r)) ≡ true
+  pub taken : codeOf (step s (pollEvent k r)) (replyEvent k r) ≡ 0
   pub reply : Message
   pub reads : readPacket idLength (r .octets) ≡ message reply
   pub answers : List CsaRecord
   pub is-reply : reply .body ≡ csuReply answers
-  pub full : All (NamedIn answers) (requestRecords (itemOf s (pollOf k r) .written))
+  pub full : All (NamedIn answers) (requestRecords (itemOf s (pollEvent k r) .written))
 
 -- 'no other event'
 abbrev pub roundEvents : ℕ → List Round → List Event
 roundEvents k [] = []
-roundEvents k (r ∷ rs) = pollOf k r ∷ answerOf k r ∷ roundEvents k rs
+roundEvents k (r ∷ rs) = pollEvent k r ∷ replyEvent k r ∷ roundEvents k rs
 
 abbrev pub Drains : ℕ → Server → List Round → Type 0
 Drains k s [] = Unit {0}
-Drains k s (r ∷ rs) = Answers k s r × Drains k (step (step s (pollOf k r)) (answerOf k r)) rs
+Drains k s (r ∷ rs) = Answers k s r × Drains k (step (step s (pollEvent k r)) (replyEvent k r)) rs
 
 -- ---- a poll that writes such a request: it is taken, the slot is Aligned and its peer heard of, no Hello is due, the last request is a second ago,
 -- and an entry waits
-pub record Asks (k now room : ℕ) (s : Server) : Type 0 where
+pub record RequestDue (k now room : ℕ) (s : Server) : Type 0 where
   pub taken : codeOf s (poll k now room) ≡ 0
   pub aligned : slotAt s k .link .alignment ≡ Aligned
   pub heard : checkMove now (slotAt s k .link) ≡ slotAt s k .link
