@@ -1,6 +1,6 @@
--- Laws of tables: lists of octets that are the same; cells under a map, and those that do not pass a test.
+-- Laws of tables: lists of octets that are the same; a function changed at one number; cells under a map, and those that do not pass a test.
 -- Assumes nothing.
-use Prim.Native.Nat.{ℕ, suc, _≤_}
+use Prim.Native.Nat.{ℕ, suc, _≤_, _<_}
 use mathlib.Core.Path.{_≡_, refl, sym, ap, _∙_}
 use mathlib.Core.Bool.{Bool, true, false, _&&_, _||_, false≢true}
 use mathlib.Core.List.{List, [], _∷_, _++_, map}
@@ -10,8 +10,25 @@ use lib.ListN.{length, length-append}
 use borrow.Author.Tests.{lt-ltb, eqb-true, eqb-false, eq-eqb, ne-eqb}
 use Rattle.laws.specs.Choice.{pick}
 use Rattle.laws.specs.Lists.{All}
-use Rattle.laws.specs.Tables.{has, change, without, same, In, here, there}
+use Rattle.laws.specs.Tables.{on, has, change, without, count, same, In, here, there}
 use Rattle.laws.proofs.Bools.{and-true, is-false, pick-of}
+
+-- ---- a function changed at one number
+module _ {A : Type 0} (k : ℕ) (b : A) (f : ℕ → A) where
+  pub on-here : on k b f k ≡ b
+  on-here = rw (eq-eqb k k refl) refl
+
+  pub on-other : (j : ℕ) → (j ≡ k → ⊥) → on k b f j ≡ f j
+  on-other j far = rw (ne-eqb j k far) refl
+
+-- ---- some cell passes where one is counted
+count-by : (b more : Bool) (n : ℕ) → (0 < n → more ≡ true) → 0 < pick b (suc n) n → (b || more) ≡ true
+count-by true more n h l = refl
+count-by false more n h l = h l
+
+pub count-has : {A : Type 0} (p : A → Bool) (l : List A) → 0 < count p l → has p l ≡ true
+count-has p [] h = absurd (omega arith)
+count-has p (x ∷ l) h = count-by (p x) (has p l) (count p l) (count-has p l) h
 
 -- ---- the same octets
 pub same-refl : (l : List ℕ) → same l l ≡ true
@@ -72,6 +89,10 @@ module _ {A B : Type 0} (g : A → B) where
   pub all-map : (Q : B → Type 0) (l : List A) → All Q (map g l) → All (λ x. Q (g x)) l
   all-map Q [] h = tt
   all-map Q (x ∷ l) h = (h .0, all-map Q l (h .1))
+
+  pub map-in : (x : A) (l : List A) → In x l → In (g x) (map g l)
+  map-in x (a ∷ l) here = here
+  map-in x (a ∷ l) (there i) = there (map-in x l i)
 
   pub in-map : (y : B) (l : List A) → In y (map g l) → (x : A) × In x l × (g x ≡ y)
   in-map y (a ∷ l) here = (a, here, refl)

@@ -2,7 +2,7 @@
 -- Assumes nothing.
 use Prim.Native.Nat.{ℕ, zero, suc, _+_, _≤_, _<_}
 use mathlib.Core.Path.{_≡_, refl, sym, ap, _∙_}
-use mathlib.Core.Bool.{Bool, true, false}
+use mathlib.Core.Bool.{Bool, true, false, false≢true}
 use mathlib.Core.List.{List, [], _∷_, map}
 use native.Mathlib.Omega.{arith}
 use lib.ListN.{length, getD}
@@ -20,6 +20,17 @@ unfolding tally
 tally-same p q zero j h = refl
 tally-same p q (suc left) j h =
     rw (h j (omega arith) (omega arith), tally-same p q left (suc j) (λ i a b. h i (omega arith) (omega arith))) refl
+
+fewer-by : (a b : ℕ) (p q : Bool) → (q ≡ true → p ≡ true) → b ≤ a → pick q (suc b) b ≤ pick p (suc a) a
+fewer-by a b true true h l = omega arith
+fewer-by a b true false h l = omega arith
+fewer-by a b false true h l = absurd (false≢true (h refl))
+fewer-by a b false false h l = l
+
+pub tally-fewer : (p q : ℕ → Bool) → ((i : ℕ) → q i ≡ true → p i ≡ true) → (left j : ℕ) → tally q left j ≤ tally p left j
+unfolding tally
+tally-fewer p q h zero j = omega arith
+tally-fewer p q h (suc left) j = fewer-by (tally p left (suc j)) (tally q left (suc j)) (p j) (q j) (h j) (tally-fewer p q h left (suc j))
 
 -- ---- one place more at the end
 last-by : (a b c : ℕ) (p : Bool) → a ≡ b + c → pick p (suc a) a ≡ pick p (suc b) b + c

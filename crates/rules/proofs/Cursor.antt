@@ -40,6 +40,7 @@ use Rattle.rules.specs.SlotHistory.{isRequestType}
 use Rattle.rules.specs.Demand3.{isPollOf, requestRecords}
 use Rattle.rules.proofs.Relation.{Inv}
 use Rattle.rules.proofs.RequestBack.{not-hello, not-ca, not-csus}
+use Rattle.rules.proofs.PastLaws.{not-entered}
 use Rattle.rules.proofs.Kept.{KeepsCa, KeptCa, no-request, kept-checked}
 use Rattle.rules.proofs.Sent.{update-back, peer-length}
 
@@ -48,26 +49,6 @@ pub data CursorStep (rows : List Row) (k c c′ : ℕ) (polled : Bool) (written 
   stood : c′ ≡ c → (polled && isRequestType written) ≡ false → CursorStep rows k c c′ polled written
   sends : polled ≡ true → requestRecords written ≡ rowsOf heldRecord rows (nextWaiting rows k c) → c′ ≡ behind c (nextWaiting rows k c) % rowsMost
       → CursorStep rows k c c′ polled written
-
--- ---- a live state is not entered from Down or Negotiate
-pub not-entered : (a b : Alignment) → isLive b ≡ true → enters a b ≡ false
-not-entered a Down h = absurd (false≢true h)
-not-entered a Negotiate h = absurd (false≢true h)
-not-entered Down (Summarize r) h = refl
-not-entered Negotiate (Summarize r) h = refl
-not-entered (Summarize q) (Summarize r) h = refl
-not-entered Update (Summarize r) h = refl
-not-entered Aligned (Summarize r) h = refl
-not-entered Down Update h = refl
-not-entered Negotiate Update h = refl
-not-entered (Summarize q) Update h = refl
-not-entered Update Update h = refl
-not-entered Aligned Update h = refl
-not-entered Down Aligned h = refl
-not-entered Negotiate Aligned h = refl
-not-entered (Summarize q) Aligned h = refl
-not-entered Update Aligned h = refl
-not-entered Aligned Aligned h = refl
 
 -- the slot is live
 abbrev Live : Slot → Type 0

@@ -8,14 +8,14 @@ use mathlib.Core.Bool.{Bool, true, false, false≢true}
 use mathlib.Core.List.{List, [], _∷_}
 use native.Mathlib.Omega.{arith}
 use lib.ListN.{length, List·getD-map}
-use borrow.Author.Tests.{eq-eqb}
 use Rattle.laws.specs.Choice.{pick}
 use Rattle.laws.specs.Lists.{All}
 use Rattle.laws.specs.Tables.{on, change, update, count, In, here, there}
 use Rattle.laws.proofs.Bools.{pick-of, is-false}
 use Rattle.laws.proofs.Integers.{not-less-same}
 use Rattle.laws.proofs.Cells.{each-change, change-update}
-use Rattle.laws.proofs.Tallies.{tally, tally-same, tally-round, count-tally, count-change}
+use Rattle.laws.proofs.Tallies.{tally, tally-same, tally-fewer, tally-round, count-tally, count-change}
+use Rattle.laws.proofs.Tables.{on-here}
 use Rattle.protocol.specs.declared.CsaNumber.{CsaNumber}
 use Rattle.protocol.specs.Numbers.{newer}
 use Rattle.protocol.specs.Messages.{CsaRecord}
@@ -36,15 +36,12 @@ module _ (k : ℕ) where
   abbrev Only : Row → Row → Type 0
   Only x y = waitsFor k y ≡ true → waitsFor k x ≡ true
 
-  off : (m : ℕ → Bool) → on k false m k ≡ false
-  off m = rw (eq-eqb k k refl) refl
-
   only-takes : (n : CsaNumber) (r : Row) → Only r (replied k n r)
   only-takes n free = λ h. h
   only-takes n (used e v m) =
       pick-of (Only (used e v m)) (newer n (v .number)) (used e v m) (pick (newer (v .number) n) (used e v m) (used e v (on k false m))) (λ h. h)
       (pick-of (Only (used e v m)) (newer (v .number) n) (used e v m) (used e v (on k false m)) (λ h. h)
-      (λ h. absurd (false≢true (sym (off m) ∙ h))))
+      (λ h. absurd (false≢true (sym (on-here k false m) ∙ h))))
 
   replied-takes : (rs : List CsaRecord) (rows : List Row) (i : ℕ) → Only (rowAt rows i) (rowAt (allReplied k rs rows) i)
   replied-takes [] rows i h = h
@@ -92,7 +89,7 @@ module _ (k : ℕ) where
         let y = change (holds (entryOf r)) (replied k (r .number)) rows in
         let now : rowAt y i ≡ used e v (on k false m) = row-after r rows z m h ∙ taken r m same number in
         is-false (waitsFor k (rowAt (allReplied k rs y) i))
-        (λ t. false≢true (sym (off m) ∙ sym (ap (waitsFor k) now) ∙ replied-takes rs y i t))
+        (λ t. false≢true (sym (on-here k false m) ∙ sym (ap (waitsFor k) now) ∙ replied-takes rs y i t))
     clears (r ∷ rs) rows z m h q (there n) same number =
         let y = change (holds (entryOf r)) (replied k (r .number)) rows in
         let f = still-used r m (sameEntry e (entryOf r)) in
@@ -117,18 +114,6 @@ module _ (live : ℕ → Bool) (k : ℕ) (rows : List Row) (z : RowsInv live row
   abbrev after : ℕ → Bool
   after i = waitsFor k (rowAt (allReplied k rs rows) (i % rowsMost))
 
-  fewer-by : (a b : ℕ) (p q : Bool) → (q ≡ true → p ≡ true) → b ≤ a → pick q (suc b) b ≤ pick p (suc a) a
-  fewer-by a b true true h l = omega arith
-  fewer-by a b true false h l = omega arith
-  fewer-by a b false true h l = absurd (false≢true (h refl))
-  fewer-by a b false false h l = l
-
-  fewer : (left j : ℕ) → tally after left j ≤ tally before left j
-  unfolding tally
-  fewer zero j = omega arith
-  fewer (suc left) j =
-      fewer-by (tally before left (suc j)) (tally after left (suc j)) (before j) (after j) (replied-takes k rs rows (j % rowsMost)) (fewer left (suc j))
-
   named-by : (i : ℕ) (x : Row) → rowAt rows i ≡ x → waitsFor k x ≡ true → (more : List CsaRecord) → All (NamedIn rs) (used1 heldRecord x more)
       → (waitsFor k (rowAt (allReplied k rs rows) i) ≡ false) × All (NamedIn rs) more
   named-by i free h t more a = absurd (false≢true t)
@@ -152,7 +137,7 @@ module _ (live : ℕ → Bool) (k : ℕ) (rows : List Row) (z : RowsInv live row
   most : (left n j : ℕ) → All (NamedIn rs) (rowsOf heldRecord rows (next before left n j)) → tally after left j ≤ tally before left j - n
   unfolding next tally
   most zero n j a = omega arith
-  most (suc left) zero j a = let h = fewer (suc left) j in omega arith
+  most (suc left) zero j a = let h = tally-fewer before after (λ i. replied-takes k rs rows (i % rowsMost)) (suc left) j in omega arith
   most (suc left) (suc n) j a = most-by left n j (most left n (suc j)) (most left (suc n) (suc j)) (before j) refl a
 
   between : (a b n : ℕ) → a ≤ n + b → n ≤ 4 → b ≤ a - 4 → b ≡ a - 4

@@ -4,15 +4,16 @@
 -- Assumes nothing.
 use Prim.Native.Nat.{ℕ, suc, _+_, _-_, _*_, _/_, _<_}
 use mathlib.Core.Path.{_≡_, refl, ap, _∙_}
-use mathlib.Core.Bool.{Bool, true, false, _&&_, _||_}
+use mathlib.Core.Bool.{Bool, true, _&&_}
 use mathlib.Core.List.{List, [], _∷_}
 use native.Mathlib.Omega.{arith}
 use lib.ListN.{length}
 use borrow.Author.Tests.{eq-eqb}
 use Rattle.laws.specs.Choice.{pick}
 use Rattle.laws.specs.Lists.{All}
-use Rattle.laws.specs.Tables.{has, count}
+use Rattle.laws.specs.Tables.{count}
 use Rattle.laws.proofs.Bools.{pick-of}
+use Rattle.laws.proofs.Tables.{count-has}
 use Rattle.protocol.specs.declared.Link.{Link}
 use Rattle.rules.specs.Server.{Settings, settingsCode, Row, waitsFor, Slot, slotAt, Server, fresh}
 use Rattle.rules.specs.Links.{isPast}
@@ -83,13 +84,6 @@ module _ (c : Settings) (accepted : settingsCode c ≡ 0) (es : List Event) (k :
   no-sooner d l = rw (drain d) (some-left (waitingFor k s) (length rs) l)
 
 -- ---- such a request is written
-some-waits : (p : Row → Bool) (rows : List Row) → 0 < count p rows → has p rows ≡ true
-some-waits p [] h = absurd (omega arith)
-some-waits p (r ∷ rows) h = by (p r) h (some-waits p rows) where
-  by : (b : Bool) → 0 < pick b (suc (count p rows)) (count p rows) → (0 < count p rows → has p rows ≡ true) → (b || has p rows) ≡ true
-  by true q rest = refl
-  by false q rest = rest q
-
 module _ (s : Server) (k now room : ℕ) (a : RequestDue k now room s) where
   abbrev x : Slot
   x = slotAt s k
@@ -100,7 +94,7 @@ module _ (s : Server) (k now room : ℕ) (a : RequestDue k now room s) where
       ∙ ap (λ (b : Bool). pick b (emptied (withLink (x .link) x)) (withLink (x .link) x)) (enters-same (x .link .alignment))
 
   due-by : (y : Slot) → y .link ≡ x .link → y .timers ≡ x .timers → dueOf (s .settings) now (s .rows) k y ≡ anUpdate
-  due-by y l t = rw (t, a .no-hello) (rw (l, a .aligned) (rw (a .apart, some-waits (waitsFor k) (s .rows) (a .waits)) refl))
+  due-by y l t = rw (t, a .no-hello) (rw (l, a .aligned) (rw (a .apart, count-has (waitsFor k) (s .rows) (a .waits)) refl))
 
   pub due : dueOf (s .settings) now (s .rows) k (keptDropped now (checked now x)) ≡ anUpdate
   due =

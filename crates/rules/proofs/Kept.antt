@@ -22,7 +22,7 @@ use Rattle.protocol.specs.Messages.{CsaRecord, Message, Body, ca, csuRequest, c
 use Rattle.protocol.specs.Layouts.{layout, packetOf}
 use Rattle.protocol.specs.Reading.{Reading, refused, malformed, message, readPacket}
 use Rattle.rules.specs.Server.{Settings, Row, Slot, freshSlot, Server, slotsMost, slotAt, fresh}
-use Rattle.rules.specs.Links.{isDown, isBidirectional, hearsPeer, isPast, enters, recorded, negotiating, withHello, toOther, upMove, downMove}
+use Rattle.rules.specs.Links.{isDown, isBidirectional, hearsPeer, isPast, enters, recorded, negotiating, withHello, toOther, upMove, downMove, isLive}
 use Rattle.rules.specs.Links.{helloMove, malformedMove, checkMove, CaRule, refuseCa, becomeSlave, becomeMaster, repeat, slaveOn, masterOn}
 use Rattle.rules.specs.Links.{masterDone, ignore, restart, caMove}
 use Rattle.protocol.specs.declared.HelloState.the-variants.{Waiting, Bidirectional}
@@ -36,7 +36,7 @@ use Rattle.rules.specs.Events.{Event, addPeer, linkUp, linkDown, packet,
 use Rattle.rules.specs.Events.{placeOf, liveIn, readSlot, slotAfter, slotsAfter, acted, serverIf, step, run}
 use Rattle.rules.specs.SlotHistory.{isCa, isRequestType}
 use Rattle.rules.proofs.CodeTold.{message-told}
-use Rattle.rules.proofs.PastLaws.{moved-link}
+use Rattle.rules.proofs.PastLaws.{moved-link, not-entered}
 
 abbrev pub isSummarize : Alignment → Bool
 isSummarize Down = false
@@ -83,12 +83,12 @@ kept-fresh c k = rw (all-alike freshSlot slotsMost k) (none-kept Down refl)
 abbrev Onward : Alignment → Alignment → Type 0
 Onward a b = isSummarize b ≡ true → isSummarize a ≡ true
 
-not-entered : (a b : Alignment) → isSummarize b ≡ true → enters a b ≡ false
-not-entered a Down h = absurd (false≢true h)
-not-entered a Negotiate h = absurd (false≢true h)
-not-entered a (Summarize r) h = refl
-not-entered a Update h = absurd (false≢true h)
-not-entered a Aligned h = absurd (false≢true h)
+summarize-live : (a : Alignment) → isSummarize a ≡ true → isLive a ≡ true
+summarize-live Down h = absurd (false≢true h)
+summarize-live Negotiate h = absurd (false≢true h)
+summarize-live (Summarize r) h = refl
+summarize-live Update h = absurd (false≢true h)
+summarize-live Aligned h = absurd (false≢true h)
 
 onward : (a b : Alignment) (p : List ℕ) → Onward a b → Keeps a p → Keeps b p
 onward a b p f k = record { is-ca = k .is-ca; some = λ h. k .some (f h) }
@@ -98,7 +98,7 @@ kept-moved l x f k =
     picked KeepsCa (enters (x .link .alignment) (l .alignment)) (emptied (withLink l x)) (withLink l x)
     (λ e. record {
       is-ca = λ h. absurd (false≢true (sym h));
-      some = λ h. absurd (false≢true (sym (not-entered (x .link .alignment) (l .alignment) h) ∙ e));
+      some = λ h. absurd (false≢true (sym (not-entered (x .link .alignment) (l .alignment) (summarize-live (l .alignment) h)) ∙ e));
     })
     (λ e. onward (x .link .alignment) (l .alignment) (x .kept) f k)
 

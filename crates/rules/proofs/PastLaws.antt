@@ -2,7 +2,7 @@
 -- Assumes nothing.
 use Prim.Native.Nat.{ℕ}
 use mathlib.Core.Path.{_≡_, refl, ap, _∙_, fun-ext}
-use mathlib.Core.Bool.{Bool, true, false, _&&_, _||_}
+use mathlib.Core.Bool.{Bool, true, false, _&&_, _||_, false≢true}
 use mathlib.Core.List.{List, map}
 use lib.ListN.{getD, List·getD-map}
 use Rattle.laws.specs.Lists.{isEmpty}
@@ -123,6 +123,26 @@ enters-same Negotiate = refl
 enters-same (Summarize r) = refl
 enters-same Update = refl
 enters-same Aligned = refl
+
+-- a live state is not entered so that lists are emptied
+pub not-entered : (a b : Alignment) → isLive b ≡ true → enters a b ≡ false
+not-entered a Down h = absurd (false≢true h)
+not-entered a Negotiate h = absurd (false≢true h)
+not-entered Down (Summarize r) h = refl
+not-entered Negotiate (Summarize r) h = refl
+not-entered (Summarize q) (Summarize r) h = refl
+not-entered Update (Summarize r) h = refl
+not-entered Aligned (Summarize r) h = refl
+not-entered Down Update h = refl
+not-entered Negotiate Update h = refl
+not-entered (Summarize q) Update h = refl
+not-entered Update Update h = refl
+not-entered Aligned Update h = refl
+not-entered Down Aligned h = refl
+not-entered Negotiate Aligned h = refl
+not-entered (Summarize q) Aligned h = refl
+not-entered Update Aligned h = refl
+not-entered Aligned Aligned h = refl
 
 pub moved-link : (l : Link) (x : Slot) → moved l x .link ≡ l
 moved-link l x = pick-of (λ (y : Slot). y .link ≡ l) (enters (x .link .alignment) (l .alignment)) (emptied (withLink l x)) (withLink l x) refl refl

@@ -10,7 +10,7 @@ use borrow.Author.Tests.{eq-eqb, le-ltb}
 use Rattle.laws.specs.Lists.{All}
 use Rattle.laws.specs.Tables.{In, here, there}
 use Rattle.laws.proofs.Bools.{pick-of}
-use Rattle.laws.proofs.Tables.{same-refl}
+use Rattle.laws.proofs.Tables.{same-refl, map-in}
 use Rattle.protocol.specs.Sizes.{idLength}
 use Rattle.protocol.specs.Messages.{CsaRecord, summaryOf, Message, csuReply}
 use Rattle.protocol.specs.Layouts.{packetOf}
@@ -45,10 +45,6 @@ named-among : (rs ss : List CsaRecord) → ((r : CsaRecord) → In r rs → In (
 named-among [] ss h = tt
 named-among (r ∷ rs) ss h =
     (record { answer = summaryOf r; listed = h r here; entry = entry-refl (entryOf r); number = refl }, named-among rs ss (λ q i. h q (there i)))
-
-in-summaries : (r : CsaRecord) (rs : List CsaRecord) → In r rs → In (summaryOf r) (map summaryOf rs)
-in-summaries r (q ∷ rs) here = here
-in-summaries r (q ∷ rs) (there i) = there (in-summaries r rs i)
 
 module _ (s : Server) (v : Inv s) (kept : KeptCa s) (ts : TypedServer s) (k now room : ℕ) (a : RequestDue k now room s) where
   abbrev x : Slot
@@ -148,7 +144,7 @@ module _ (s : Server) (v : Inv s) (kept : KeptCa s) (ts : TypedServer s) (k now 
       answers = map summaryOf asked;
       is-reply = refl;
       full = rw (asked-records s v kept k now room (request-written s k now room a))
-          (named-among asked (map summaryOf asked) (λ q i. in-summaries q asked i));
+          (named-among asked (map summaryOf asked) (λ q i. map-in summaryOf q asked i));
     },
   )
 

@@ -4,11 +4,11 @@
 use Prim.Native.Nat.{ℕ, zero, suc, _+_, _≤_, _<_}
 use mathlib.Core.Path.{_≡_, refl, sym, ap, _∙_}
 use mathlib.Core.Bool.{Bool, true, false, not, _||_, false≢true}
-use mathlib.Core.List.{List, [], map}
+use mathlib.Core.List.{List}
 use native.Mathlib.Decide.{ℕ-discrete}
 use native.Mathlib.Omega.{arith}
-use lib.ListN.{length, take}
-use borrow.Author.Tests.{eqb-true}
+use lib.ListN.{length}
+use borrow.Author.Tests.{eqb-true, not-true}
 use Rattle.laws.specs.Choice.{pick}
 use Rattle.laws.specs.Tables.{has, count}
 use Rattle.laws.proofs.Bools.{and-true, or-false, pick-of}
@@ -34,39 +34,22 @@ use Rattle.rules.specs.Rows.{isPurged, anySlot, toFree, sweptRow, swept,
 use Rattle.rules.specs.Updates.{allReplied}
 use Rattle.rules.specs.Slots.{passed}
 use Rattle.rules.specs.Sent.{octetsOf}
-use Rattle.rules.specs.Poll.{Due, nothingDue, aHello, firstCa, keptCa, aCsus, anUpdate, caInterval, firstFlags, requestRecord}
-use Rattle.rules.specs.Poll.{heldRecord, dueIn, dueOf, dueSent, keptDropped, checked, pollSlot}
+use Rattle.rules.specs.Poll.{Due, nothingDue, aHello, firstCa, keptCa, caInterval}
+use Rattle.rules.specs.Poll.{heldRecord, dueIn, dueOf, keptDropped, checked, pollSlot}
 use Rattle.rules.specs.Events.{Event, packet, poll, codeOf, counts, alignmentAt, liveIn, readSlot, readRows, acted, serverIf, step, sentIf}
 use Rattle.rules.specs.Events.{writtenAt, itemOf}
 use Rattle.rules.specs.SlotHistory.{isRequestType}
 use Rattle.rules.specs.Demand3.{requestRecords, isPollOf, isUpdateTo}
 use Rattle.rules.proofs.Relation.{Inv}
-use Rattle.rules.proofs.RequestBack.{not-hello, not-ca, not-csus}
-use Rattle.rules.proofs.PastLaws.{enters-same}
+use Rattle.rules.proofs.PastLaws.{enters-same, not-entered}
 use Rattle.rules.proofs.CodeTold.{poll-in-use, packet-in-use, past-live}
-use Rattle.rules.proofs.Kept.{KeepsCa, KeptCa, no-request, kept-checked}
-use Rattle.rules.proofs.UpdateCounts.{due-link, used-here}
+use Rattle.rules.proofs.Kept.{KeptCa, kept-checked}
+use Rattle.rules.proofs.UpdateCounts.{isUpdate, due-type, due-link, used-here}
 use Rattle.rules.proofs.Ends.{acted-rows, swept-same}
-use Rattle.rules.proofs.Cursor.{not-entered, CursorStep, stood, sends, cursor-step}
+use Rattle.rules.proofs.Cursor.{CursorStep, stood, sends, cursor-step}
 
 -- ---- an update request is due past Summarize only
-abbrev isUpdate : Due → Bool
-isUpdate nothingDue = false
-isUpdate aHello = false
-isUpdate firstCa = false
-isUpdate keptCa = false
-isUpdate aCsus = false
-isUpdate anUpdate = true
-
 module _ (s : Settings) (now : ℕ) (rows : List Row) (k : ℕ) (y : Slot) where
-  due-update : KeepsCa y → (d : Due) → isRequestType (octetsOf (dueSent d s rows k y)) ≡ true → isUpdate d ≡ true
-  due-update p nothingDue h = h
-  due-update p aHello h = absurd (false≢true (sym (not-hello s y) ∙ h))
-  due-update p firstCa h = absurd (false≢true (sym (not-ca s y (y .link .number) firstFlags []) ∙ h))
-  due-update p keptCa h = absurd (false≢true (sym (no-request (y .link .alignment) (y .kept) p) ∙ h))
-  due-update p aCsus h = absurd (false≢true (sym (not-csus s y (map requestRecord (take 4 (y .requests)))) ∙ h))
-  due-update p anUpdate h = refl
-
   abbrev Past : Alignment → Due → Type 0
   Past a d = isUpdate d ≡ true → isPast a ≡ true
 
@@ -119,7 +102,7 @@ module _ (s : Server) (v : Inv s) (kept : KeptCa s) (k now room : ℕ) (h : isUp
   asked-past =
       let d = dueOf (s .settings) now (s .rows) k y in
       ap (λ (l : Link). isPast (l .alignment)) (due-link (s .settings) now (s .rows) k y d)
-      ∙ past-due (s .settings) now (s .rows) k y (due-update (s .settings) now (s .rows) k y (kept-checked now x (kept k)) d (both .1))
+      ∙ past-due (s .settings) now (s .rows) k y (sym (due-type (s .settings) now (s .rows) k y (kept-checked now x (kept k)) d) ∙ both .1)
 
   in-use : slotAt s k .used ≡ true
   in-use = poll-in-use s k now room (eqb-true _ 0 (unfold codeOf in asked-counts))
@@ -228,10 +211,7 @@ any-none m h k l = none-of m 7 0 h k (omega arith) (omega arith)
 module _ (k : ℕ) (small : k < slotsMost) where
   swept-by : (r : Row) (b : Bool) → toFree r ≡ b → waitsFor k (pick b free r) ≡ waitsFor k r
   swept-by free true e = refl
-  swept-by (used x w m) true e = sym (any-none m (not-true-any (anySlot m) (and-true (isPurged (w .number)) (not (anySlot m)) e .1)) k small) where
-    not-true-any : (b : Bool) → not b ≡ true → b ≡ false
-    not-true-any true q = absurd (false≢true q)
-    not-true-any false q = refl
+  swept-by (used x w m) true e = sym (any-none m (not-true (anySlot m) (and-true (isPurged (w .number)) (not (anySlot m)) e .1)) k small)
   swept-by r false e = refl
 
   pub swept-count : (rows : List Row) → count (waitsFor k) (swept rows) ≡ count (waitsFor k) rows

@@ -2,22 +2,23 @@
 -- Into Negotiate the count is emptied and every other move leaves it, a poll that writes an update request adds one; the history does so too, and
 -- each of these steps may as well be done before a number is cut off as after.
 -- Assumes nothing.
-use Prim.Native.Nat.{ℕ, zero, suc, _≤_, _<_}
+use Prim.Native.Nat.{ℕ, suc, _≤_, _<_}
 use mathlib.Core.Path.{_≡_, refl, sym, ap, _∙_}
-use mathlib.Core.Bool.{Bool, true, false, _&&_, false≢true}
+use mathlib.Core.Bool.{Bool, true, false, _&&_}
 use mathlib.Core.Logic.{⊎-elim}
-use mathlib.Core.List.{List, [], _∷_, map}
+use mathlib.Core.List.{List, [], map}
 use native.Mathlib.Decide.{ℕ-discrete}
 use native.Mathlib.Omega.{arith}
 use lib.Dec.{ltb}
-use lib.Seq.{getD-set-other}
+use lib.Seq.{getD-set-same, getD-set-other}
 use lib.ListN.{getD, take}
 use lib.ListN as lists
-use borrow.Author.Tests.{eqb-true, eq-eqb, ne-eqb, ltb-true, ltb-false, le-ltb}
+use borrow.Author.Tests.{eqb-true, ltb-true, ltb-false, le-ltb}
 use Rattle.laws.specs.Choice.{pick}
 use Rattle.laws.specs.Tables.{on}
 use Rattle.laws.proofs.Bools.{pick-of}
-use Rattle.laws.proofs.Cells.{set-here}
+use Rattle.laws.proofs.Cells.{set-here, within}
+use Rattle.laws.proofs.Tables.{on-here, on-other}
 use Rattle.protocol.specs.declared.Alignment.{Alignment}
 use Rattle.protocol.specs.declared.Alignment.the-variants.{Down, Negotiate, Summarize, Update, Aligned}
 use Rattle.protocol.specs.declared.Link.{Link}
@@ -25,16 +26,16 @@ use Rattle.protocol.specs.declared.Last.the-variants.{Never}
 use Rattle.protocol.specs.Sizes.{idLength}
 use Rattle.protocol.specs.Numbers.{oneMore}
 use Rattle.protocol.specs.Messages.{Message, Body, ca, csuRequest, csuReply, csus, hello}
-use Rattle.protocol.specs.Layouts.{layout, packetOf}
 use Rattle.protocol.specs.Reading.{Reading, refused, malformed, message, readPacket}
 use Rattle.rules.specs.Server.{Settings, Row, Slot, freshSlot, Server, slotAt}
 use Rattle.rules.specs.Links.{isDown, isPast, enters, upMove, downMove, helloMove, malformedMove, checkMove, CaRule, refuseCa, becomeSlave}
 use Rattle.rules.specs.Links.{becomeMaster, repeat, slaveOn, masterOn, masterDone, ignore, restart, caMove}
+use Rattle.rules.specs.Rows.{nextWaiting, rowsOf}
 use Rattle.rules.specs.Slots.{moved, emptied, withLink, withKept, withRequests, helloSent, passed, completed, updatesIn}
 use Rattle.rules.specs.Sent.{octetsOf}
 use Rattle.rules.specs.Alignment.{CaPacket, caPacket, ruleFor, caSlot, taking, answering, answerMore}
 use Rattle.rules.specs.Packets.{slotOn, namesUs, updatedBy}
-use Rattle.rules.specs.Poll.{Due, nothingDue, aHello, firstCa, keptCa, aCsus, anUpdate, caInterval, firstFlags, requestRecord, dueSlot}
+use Rattle.rules.specs.Poll.{Due, nothingDue, aHello, firstCa, keptCa, aCsus, anUpdate, caInterval, firstFlags, requestRecord, heldRecord, dueSlot}
 use Rattle.rules.specs.Poll.{dueOf, dueSent, keptDropped, checked, pollSlot, pollSent}
 use Rattle.rules.specs.Events.{Event, addPeer, linkUp, linkDown, packet, poll, set, withdraw, purge, counts, codeOf, placeOf, liveIn, readSlot}
 use Rattle.rules.specs.Events.{peerSlot, slotAfter, slotsAfter, sentBy, acted, writtenAt}
@@ -42,7 +43,7 @@ use Rattle.rules.specs.SlotHistory.{SlotHistory, isRequestType, stateAt}
 use Rattle.rules.specs.History.{History, isNegotiate, sinceIn, updatesAfter}
 use Rattle.rules.specs.Demand3.{cutOff}
 use Rattle.rules.proofs.Relation.{pastAs, seenOf}
-use Rattle.rules.proofs.RequestBack.{not-hello, not-ca, not-csus}
+use Rattle.rules.proofs.RequestBack.{is-request, not-hello, not-ca, not-csus}
 use Rattle.rules.proofs.PastLaws.{enters-past, enters-same, moved-link, completed-link, state-at}
 use Rattle.rules.proofs.CodeTold.{link-in-use, poll-in-use, packet-in-use}
 use Rattle.rules.proofs.Kept.{KeepsCa, KeptCa, no-request, kept-checked}
@@ -152,22 +153,38 @@ counts-checked now x =
     let g = counts-moved (checkMove now (x .link)) x in
     pick-of (Counts x) (isPast (y .link .alignment) && passed caInterval (y .timers .ca) now) (withKept [] y) y g g
 
+abbrev pub isUpdate : Due → Bool
+isUpdate nothingDue = false
+isUpdate aHello = false
+isUpdate firstCa = false
+isUpdate keptCa = false
+isUpdate aCsus = false
+isUpdate anUpdate = true
+
 -- one more where w is an update request
 abbrev plus : List ℕ → ℕ → ℕ
 plus w n = pick (isRequestType w) (oneMore n) n
 
 module _ (s : Settings) (now : ℕ) (rows : List Row) (k : ℕ) where
-  update-type : (y : Slot) → isRequestType (octetsOf (dueSent anUpdate s rows k y)) ≡ true
-  unfolding packetOf layout
-  update-type y = refl
+  -- what is due is a CSU Request exactly where it is an update request
+  pub due-type : (y : Slot) → KeepsCa y → (d : Due) → isRequestType (octetsOf (dueSent d s rows k y)) ≡ isUpdate d
+  due-type y p nothingDue = refl
+  due-type y p aHello = not-hello s y
+  due-type y p firstCa = not-ca s y (y .link .number) firstFlags []
+  due-type y p keptCa = no-request (y .link .alignment) (y .kept) p
+  due-type y p aCsus = not-csus s y (map requestRecord (take 4 (y .requests)))
+  due-type y p anUpdate = is-request s y (rowsOf heldRecord rows (nextWaiting rows k (y .cursor)))
+
+  due-updates : (y : Slot) (d : Due) → dueSlot d s now rows k y .updates ≡ pick (isUpdate d) (oneMore (y .updates)) (y .updates)
+  due-updates y nothingDue = refl
+  due-updates y aHello = refl
+  due-updates y firstCa = refl
+  due-updates y keptCa = refl
+  due-updates y aCsus = refl
+  due-updates y anUpdate = refl
 
   counts-due : (y : Slot) → KeepsCa y → (d : Due) → dueSlot d s now rows k y .updates ≡ plus (octetsOf (dueSent d s rows k y)) (y .updates)
-  counts-due y p nothingDue = refl
-  counts-due y p aHello = rw (not-hello s y) refl
-  counts-due y p firstCa = rw (not-ca s y (y .link .number) firstFlags []) refl
-  counts-due y p keptCa = rw (no-request (y .link .alignment) (y .kept) p) refl
-  counts-due y p aCsus = rw (not-csus s y (map requestRecord (take 4 (y .requests)))) refl
-  counts-due y p anUpdate = rw (update-type y) refl
+  counts-due y p d = due-updates y d ∙ ap (λ (b : Bool). pick b (oneMore (y .updates)) (y .updates)) (sym (due-type y p d))
 
   pub due-link : (y : Slot) (d : Due) → dueSlot d s now rows k y .link ≡ y .link
   due-link y nothingDue = refl
@@ -190,15 +207,7 @@ module _ (s : Settings) (now : ℕ) (rows : List Row) (k : ℕ) where
 -- ---- the slots
 -- a slot in use is there to be set
 pub used-here : (y : Slot) (l : List Slot) (k : ℕ) → getD l k freshSlot .used ≡ true → getD (lists.set l k y) k freshSlot ≡ y
-used-here y [] k h = absurd (false≢true h)
-used-here y (x ∷ l) zero h = refl
-used-here y (x ∷ l) (suc k) h = used-here y l k h
-
-on-here : (k n : ℕ) (f : ℕ → ℕ) → on k n f k ≡ n
-on-here k n f = rw (eq-eqb k k refl) refl
-
-on-other : (k n : ℕ) (f : ℕ → ℕ) (j : ℕ) → (j ≡ k → ⊥) → on k n f j ≡ f j
-on-other k n f j far = rw (ne-eqb j k far) refl
+used-here y l k h = getD-set-same l k y freshSlot (within freshSlot (λ (x : Slot). x .used) refl l k h)
 
 module _ (s : Server) (n : ℕ → ℕ) (same : (k : ℕ) → slotAt s k .updates ≡ cutOff (n k)) where
   set-counts : (k m : ℕ) (y : Slot) → getD (lists.set (s .slots) k y) k freshSlot .updates ≡ cutOff m

@@ -131,7 +131,7 @@ fn slave_rule(h: CaHead, l: Link) -> CaRule
     CaRule::Restart
 }
 
-fn one_more(h: CaHead) -> CaHead
+fn next_head(h: CaHead) -> CaHead
     ensures { λ r. ⌜ r ≡ record { number = definition.nextCa (h .number); flags = h .flags } ⌝ }
 {
     let n = h.number;
@@ -154,7 +154,7 @@ fn master_rule(h: CaHead, l: Link) -> CaRule
         }
         return CaRule::MasterDone;
     }
-    if from_slave(one_more(h), n) {
+    if from_slave(next_head(h), n) {
         return CaRule::Ignore;
     }
     CaRule::Restart

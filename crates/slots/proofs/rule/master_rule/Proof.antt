@@ -27,14 +27,14 @@ returns-4 : tie.Need-returns-4
 returns-4 c = λ sender empty. rw (
   sym (c .before .before .before .before .from-slave .ensures)
       ∙ c .before .before .before .if1 .left,
-  sym (rw (c .before .before .one-more .ensures) at (c .before .from-slave2 .ensures)) ∙ c .if4 .taken,
+  sym (rw (c .before .before .next-head .ensures) at (c .before .from-slave2 .ensures)) ∙ c .if4 .taken,
 )
 
 returns-5 : tie.Need-returns-5
 returns-5 c = λ sender empty. rw (
   sym (c .before .before .before .before .from-slave .ensures)
       ∙ c .before .before .before .if1 .left,
-  sym (rw (c .before .before .one-more .ensures) at (c .before .from-slave2 .ensures)) ∙ c .if4 .left,
+  sym (rw (c .before .before .next-head .ensures) at (c .before .from-slave2 .ensures)) ∙ c .if4 .left,
 )
 
 pub master-rule-spec : {M : Type 1} → statement M
