@@ -125,12 +125,18 @@ module _ (k : ℕ) (slot : rules.Slot) (before after : List ℕ) (x : Slot) wher
   leaves-requests qs e f =
       leaves-lists qs (keptOf (memoryOf before) k) (e ∙ ap (requestsPut k qs) (sym (kept-same (memoryOf before) k))) f
 
+  -- the requests as they were
+  pub leaves-rows-kept : (rows : List Row) (p : List ℕ) → memoryOf after ≡ withRows rows (keptPut k p (memoryOf before))
+      → slotOf x (requestsOf (memoryOf before) k) p ≡ slot → Leaves k slot rows before after x
+  leaves-rows-kept rows p e f =
+      leaves-parts rows (requestsOf (memoryOf before) k) p
+      (e ∙ ap (λ (l : List (List Request)). withRows rows (keptPut k p (record { rows = memoryOf before .rows; requests = l; kept = memoryOf before .kept })))
+      (sym (set-getD (memoryOf before .requests) k []))) f
+
   pub leaves-kept : (p : List ℕ) → memoryOf after ≡ keptPut k p (memoryOf before)
       → slotOf x (requestsOf (memoryOf before) k) p ≡ slot → Leaves k slot (rowsIn before) before after x
   leaves-kept p e f =
-      leaves-lists (requestsOf (memoryOf before) k) p
-      (e ∙ ap (λ (l : List (List Request)). keptPut k p (record { rows = memoryOf before .rows; requests = l; kept = memoryOf before .kept }))
-      (sym (set-getD (memoryOf before .requests) k []))) f
+      leaves-rows-kept (rowsIn before) p (e ∙ ap (λ (rows : List Row). withRows rows (keptPut k p (memoryOf before))) (memory-rows before)) f
 
   pub leaves-rows : (rows : List Row) → memoryOf after ≡ withRows rows (memoryOf before) → slotWith x k before ≡ slot → Leaves k slot rows before after x
   leaves-rows rows e f =

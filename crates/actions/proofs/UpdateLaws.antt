@@ -11,12 +11,13 @@ use Rattle.laws.specs.Lists.{isEmpty}
 use Rattle.protocol.specs.Messages.{CsaRecord, summaryOf, csuRequest, csuReply}
 use Rattle.protocol.specs.Layouts.{packetOf}
 use Rattle.rules.specs.Server.{Row, Request}
-use Rattle.rules.specs.Updates.{UpdateRule, updateRule, rowsBy, requestsBy, isAcknowledged, Updated, allUpdated, solicited, allSolicited}
+use Rattle.rules.specs.Updates.{UpdateRule, updateRule, rowsBy, requestsBy, isAcknowledged, Updated, allUpdated, solicited, allSolicited, allAnswersWait}
 use Rattle.rules.specs.Links.{withAlignment}
 use Rattle.rules.specs.Slots.{withLink, alignedIf, completed, withKept}
 use Rattle.rules.specs.Sent.{octetsOf}
 use Rattle.rules.specs.Packets.{updatedBy, unlessEmpty}
 use Rattle.memory.specs.Memory.{rowsIn, Memory, memoryOf, withRows, requestsPut, requestsOf, keptOf, keptPut}
+use Rattle.memory.specs.Entries.{rowsAs}
 use Rattle.wire.specs.declared.record.Cursor.{Cursor}
 use Rattle.wire.specs.Views.{recordsOf}
 use Rattle.records.specs.declared.put.Placed.{Placed}
@@ -32,7 +33,7 @@ use Rattle.table.specs.Words.{slotIn, Changes}
 use Rattle.writer.specs.Write.{Wrote}
 use Rattle.actions.specs.Parts.{slotWith}
 use Rattle.actions.specs.Steps.{commonOf, ourMessage, WritesSome, TakesRequest, TakesCsus}
-use Rattle.actions.proofs.PartLaws.{leaves-both, leaves-kept}
+use Rattle.actions.proofs.PartLaws.{leaves-both, leaves-rows-kept}
 use Rattle.actions.proofs.FinishLaws.{puts-within, places-within, octets-unless}
 
 -- ---- a CSU Request
@@ -112,12 +113,13 @@ solicited-within rows p at out mid next walks puts =
     let few = walks .few in
     puts-within 64 (allSolicited rows (recordsOf p at)) 28 out mid next puts (omega arith) (omega arith)
 
-pub csus-taken : (s : Settings) (k : ℕ) (p : List ℕ) (at : Cursor) (before after t : List ℕ) (c : Common) (out mid out′ : List ℕ) (next n : ℕ)
+pub csus-taken : (s : Settings) (k : ℕ) (p : List ℕ) (at : Cursor) (before answered after t : List ℕ) (c : Common) (out mid out′ : List ℕ) (next n : ℕ)
     → 284 ≤ length out → Walks p at → c ≡ commonOf s (slotIn t k .peer) → Puts 64 (allSolicited (rowsIn before) (recordsOf p at)) 28 out mid next
     → WritesSome csuRequest c (at .left) next mid out′ n
-    → memoryOf after ≡ keptPut k [] (memoryOf before)
+    → memoryOf answered ≡ rowsAs (allAnswersWait k (recordsOf p at)) before
+    → memoryOf after ≡ keptPut k [] (memoryOf answered)
     → TakesCsus k (settingsOf s) (recordsOf p at) t before after out out′ n
-csus-taken s k p at before after t c out mid out′ next n long walks e puts w m =
+csus-taken s k p at before answered after t c out mid out′ next n long walks e puts w a m =
     let x : Slot = slotIn t k in
     let rs : List CsaRecord = allSolicited (rowsIn before) (recordsOf p at) in
     let size : length rs ≡ at .left = solicited-length (rowsIn before) p at in
@@ -125,7 +127,9 @@ csus-taken s k p at before after t c out mid out′ next n long walks e puts w m
     let wrote = w rs out (sym size) (omega arith) (puts .octets) in
     record {
       acts = record {
-        left = leaves-kept k (withKept [] (slotWith x k before)) before after x [] m refl;
+        left =
+            leaves-rows-kept k (withKept [] (slotWith x k before)) before after x (allAnswersWait k (recordsOf p at) (rowsIn before)) []
+            (m ∙ ap (keptPut k []) a) refl;
         wrote =
             subst (λ (l : List ℕ). Wrote l out out′ n)
             (ap (λ (y : Common). pick (isEmpty rs) [] (packetOf (ourMessage y (csuRequest rs)))) e

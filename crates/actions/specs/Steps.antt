@@ -27,7 +27,7 @@ use Rattle.rules.specs.Slots as slots
 use Rattle.rules.specs.Slots.{withLink, withRequests, completed}
 use Rattle.rules.specs.Sent.{octetsOf}
 use Rattle.rules.specs.Alignment.{CaPacket, caPacket, wantedOf, withWanted, caSentBy, caSlot}
-use Rattle.rules.specs.Updates.{allSolicited}
+use Rattle.rules.specs.Updates.{allSolicited, allAnswersWait}
 use Rattle.rules.specs.Packets.{updatedBy, unlessEmpty}
 use Rattle.rules.specs.Poll as poll
 use Rattle.rules.specs.Poll.{dueSlot, dueSent, pollSlot, pollSent}
@@ -116,7 +116,8 @@ TakesRequest live k s rs slots slots′ before after out out′ n =
 abbrev pub TakesCsus : ℕ → rules.Settings → List CsaRecord → List ℕ → List ℕ → List ℕ → List ℕ → List ℕ → ℕ → Type 0
 TakesCsus k s rs t before after out out′ n =
     let y = slotNow t k before in
-    ActsAt k (slots.withKept [] y) (rowsIn before) (octetsOf (unlessEmpty s y csuRequest (allSolicited (rowsIn before) rs))) t t before after out out′ n
+    ActsAt k (slots.withKept [] y) (allAnswersWait k rs (rowsIn before)) (octetsOf (unlessEmpty s y csuRequest (allSolicited (rowsIn before) rs))) t t before
+    after out out′ n
 
 -- ---- a poll
 abbrev pub dueKind : Due → poll.Due

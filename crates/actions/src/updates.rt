@@ -41,7 +41,7 @@ pub fn take_request(
     n
 }
 
-// A CSUS is taken: it is answered, and the kept CA goes.
+// A CSUS is taken: it is answered, what was sent waits, and the kept CA goes.
 pub fn take_csus(
     s: Settings,
     slots: &[usize],
@@ -58,7 +58,7 @@ pub fn take_csus(
 {
     let c = h.records;
     let peer = table::peer_at(slots, k);
-    let next = solicited::solicit_all(memory, p, c, out);
+    let next = solicited::solicit_all(memory, k, p, c, out);
     let n = packets::write_request(packets::common(s, peer), c.left, next, out);
     kept::drop_kept(memory, k);
     n

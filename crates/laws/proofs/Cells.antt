@@ -172,3 +172,16 @@ module _ {A : Type 0} (d : A) where
     pub each-change : (R : A → A → Type 0) → ((x : A) → R x x) → (l : List A)
         → ((i : ℕ) → p (getD l i d) ≡ true → R (getD l i d) (f (getD l i d))) → (i : ℕ) → R (getD l i d) (getD (change p f l) i d)
     each-change R same l one i = each-by R same l (change p f l) one (changed l) i
+
+-- a change that the test and a view do not see: the view of the first that passes is as it was
+viewed-by : {A B : Type 0} (g : A → B) (a b : Bool) (x x′ y y′ : A) → a ≡ b → g x ≡ g x′ → g y ≡ g y′ → g (pick a x y) ≡ g (pick b x′ y′)
+viewed-by g true b x x′ y y′ e p q = rw (← e) p
+viewed-by g false b x x′ y y′ e p q = rw (← e) q
+
+pub found-same : {A B : Type 0} (d : A) (p q : A → Bool) (f : A → A) (g : A → B) → ((x : A) → p (f x) ≡ p x) → ((x : A) → g (f x) ≡ g x) → (l : List A)
+    → g (find p d (change q f l)) ≡ g (find p d l)
+found-same d p q f g hp hg [] = refl
+found-same d p q f g hp hg (x ∷ l) =
+    pick-of (λ m. g (find p d m) ≡ g (find p d (x ∷ l))) (q x) (f x ∷ l) (x ∷ change q f l)
+    (viewed-by g (p (f x)) (p x) (f x) x (find p d l) (find p d l) (hp x) (hg x) refl)
+    (viewed-by g (p x) (p x) x x (find p d (change q f l)) (find p d l) refl refl (found-same d p q f g hp hg l))

@@ -18,7 +18,7 @@ use Rattle.protocol.specs.Fields.{octet}
 use Rattle.protocol.specs.Numbers.{newer}
 use Rattle.rules.specs.Server.{rowsMost, Row, free, waitsFor, rowAt}
 use Rattle.rules.specs.Rows.{unmarked}
-use Rattle.rules.specs.Updates.{waitsAgain, replied}
+use Rattle.rules.specs.Updates.{waitsAgain, replied, answerWaits}
 use Rattle.memory.specs.Layout.{rowSize, memorySize, rowPlace, lengthPlace, markPlace, topPlace, tagPlace}
 use Rattle.memory.specs.Memory.{isMarked, valueAt, rowIn, rowsIn, memoryOf, withRows}
 use Rattle.memory.specs.Marks.{withMarks, marked, changedAt, AnyMarks}
@@ -142,6 +142,16 @@ module _ (s : List ℕ) (i : ℕ) (h : i < rowsMost) where
     pub replied-same : newer number held ≡ false → newer held number ≡ false → unmarked k (rowAt (rowsIn s) i) ≡ replied k number (rowAt (rowsIn s) i)
     replied-same f g = at-case s i h (λ r. unmarked k r ≡ replied k number r) refl
         (rw (ap (newer number) (sym e) ∙ f, ap (λ (x : CsaNumber). newer x number) (sym e) ∙ g))
+
+    -- the answer to a record waits, unless a greater number is asked for
+    pub answer-newer : newer number held ≡ true → answerWaits k number (rowAt (rowsIn s) i) ≡ rowAt (rowsIn s) i
+    answer-newer t = at-case s i h (λ r. answerWaits k number r ≡ r) refl (rw (ap (newer number) (sym e) ∙ t))
+
+    pub answer-held : newer number held ≡ false → waitsAgain k (rowAt (rowsIn s) i) ≡ answerWaits k number (rowAt (rowsIn s) i)
+    answer-held f = at-case s i h (λ r. waitsAgain k r ≡ answerWaits k number r) refl (rw (ap (newer number) (sym e) ∙ f))
+
+    pub not-newer : newer number held ≡ false → newer number (valueAt s i .number) ≡ true → ⊥
+    not-newer f t = false≢true (sym (ap (newer number) (sym e) ∙ f) ∙ t)
 
     -- so the numbers do not differ
     pub not-differing : newer number held ≡ false → newer held number ≡ false

@@ -9,7 +9,7 @@ ghost use Rattle.protocol.specs.Numbers as definition;
 ghost use Rattle.rules.specs.Server.{slotsMost, rowsMost, Entry, holds};
 ghost use Rattle.rules.specs.Rows.{entryRow, unmarked};
 ghost use Rattle.rules.specs.Requests.{upToDate};
-ghost use Rattle.rules.specs.Updates.{value, stepped, changedRow, purgedRow, setRows, withdrawRows, purgeRows, stored, waitsAgain, rowsBy, replied};
+ghost use Rattle.rules.specs.Updates.{value, stepped, changedRow, purgedRow, setRows, withdrawRows, purgeRows, stored, waitsAgain, rowsBy, replied, answerWaits};
 ghost use Rattle.memory.specs.declared.rows.Found.the-variants.{Nothing};
 ghost use Rattle.memory.specs.Layout.{memorySize};
 ghost use Rattle.memory.specs.Memory.{entryNamed, isMarked, rowIn, rowsIn, memoryOf};
@@ -112,6 +112,20 @@ pub fn reply_record(memory: &mut [u8], k: usize, name: &[u8], number: CsaNumber)
 {
     match rows::find(memory, name) {
         Found::At(i) => marks::reply_mark(memory, i, k, number),
+        Found::Nothing => {}
+    }
+}
+
+// ---- a record of a CSUS from slot k
+// It was answered: the row that was found waits for slot k, if it was sent and hops remain.
+pub fn answer_record(memory: &mut [u8], k: usize, found: Found, number: CsaNumber)
+    requires { ⌜ ((length (now memory) ≡ memorySize) × (k < slotsMost)) × FoundBelow found ⌝ }
+    ensures { λ _. ⌜ ((e : Entry) → found ≡ firstFrom (holds e) 0 (rowsIn (now (memory .entry))) → memoryOf (now (memory .exit))
+        ≡ rowsAs (tables.change (holds e) (answerWaits k number)) (now (memory .entry))) ⌝ }
+    ensures kept { λ _. ⌜ (found ≡ Nothing → now (memory .exit) ≡ now (memory .entry)) ⌝ }
+{
+    match found {
+        Found::At(i) => marks::answer_mark(memory, i, k, number),
         Found::Nothing => {}
     }
 }

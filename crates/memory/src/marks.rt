@@ -10,7 +10,7 @@ ghost use Rattle.laws.specs.Tables.{on};
 ghost use Rattle.protocol.specs.Numbers as definition;
 ghost use Rattle.rules.specs.Server.{slotsMost, rowsMost, waitsFor, rowAt};
 ghost use Rattle.rules.specs.Rows as rules;
-ghost use Rattle.rules.specs.Updates.{waitsAgain, replied};
+ghost use Rattle.rules.specs.Updates.{waitsAgain, replied, answerWaits};
 ghost use Rattle.memory.specs.Layout.{memorySize};
 ghost use Rattle.memory.specs.Memory.{isMarked, valueAt, rowsIn, memoryOf, withRows};
 ghost use Rattle.memory.specs.Marks.{withMarks, marked, changedAt, AnyMarks};
@@ -165,6 +165,18 @@ pub fn reply_mark(memory: &mut [u8], i: usize, k: usize, number: CsaNumber)
         return;
     }
     clear_mark(memory, i, k)
+}
+
+// A number of row i's entry was asked for by slot k: what is sent for it waits, if hops remain. A greater number is not held, and none is sent.
+pub fn answer_mark(memory: &mut [u8], i: usize, k: usize, number: CsaNumber)
+    requires { ⌜ (length (now memory) ≡ memorySize) × ((i < rowsMost) × (k < slotsMost)) ⌝ }
+    ensures { λ _. ⌜ memoryOf (now (memory .exit)) ≡ changedAt (answerWaits k number) i (now (memory .entry)) ⌝ }
+    ensures kept { λ _. ⌜ (definition.newer number (valueAt (now (memory .entry)) i .number) ≡ true → now (memory .exit) ≡ now (memory .entry)) ⌝ }
+{
+    if numbers::newer(number, rows::number_of(memory, i)) {
+        return;
+    }
+    mark_again(memory, i, k)
 }
 
 // No row waits for slot k.

@@ -1,4 +1,4 @@
--- Summaries and replies, record after record: what one leaves and then the rest is what all leave.
+-- Record after record: what one leaves and then the rest is what all leave. Summaries, and records that change the row of their entry.
 -- Assumes nothing.
 use Prim.Native.Nat.{ℕ, _<_}
 use mathlib.Core.Path.{_≡_, refl, sym, ap, _∙_, subst}
@@ -7,7 +7,7 @@ use Rattle.laws.specs.Tables.{change}
 use Rattle.protocol.specs.Messages.{CsaRecord}
 use Rattle.rules.specs.Server.{Row, Entry, holds}
 use Rattle.rules.specs.Requests.{entryOf, Wanted, takenIn, allTakenIn}
-use Rattle.rules.specs.Updates.{replied, allReplied}
+use Rattle.rules.specs.Updates.{eachRow}
 use Rattle.memory.specs.Memory.{entryNamed, rowsIn, memoryOf, withRows, requestsPut}
 use Rattle.memory.specs.Lists.{wantedNow, TakesIn}
 use Rattle.memory.specs.Entries.{rowsAs}
@@ -53,20 +53,20 @@ module _ (k : ℕ) where
       pub takes-then : (all rs : List CsaRecord) → all ≡ v ∷ rs → (u : List ℕ) (r : ℕ) → TakesAll k rs m t u r → TakesAll k all n s u r
       takes-then all rs e u r rest = rw e (takes-both rs u r rest)
 
--- ---- replies
-module _ (k : ℕ) where
-  pub replies-end : (s : List ℕ) (rs : List CsaRecord) → rs ≡ [] → memoryOf s ≡ rowsAs (allReplied k rs) s
-  replies-end s rs e = rw e (ap (λ (rows : List Row). withRows rows (memoryOf s)) (memory-rows s))
+-- ---- records that each change the row of their entry, by their number
+module _ (f : CsaNumber → Row → Row) where
+  pub each-end : (s : List ℕ) (rs : List CsaRecord) → rs ≡ [] → memoryOf s ≡ rowsAs (eachRow f rs) s
+  each-end s rs e = rw e (ap (λ (rows : List Row). withRows rows (memoryOf s)) (memory-rows s))
 
   module _ (v : CsaRecord) (s t : List ℕ) where
-    pub replies-one : (name : List ℕ) (number : CsaNumber) → Named v name number
-        → memoryOf t ≡ rowsAs (change (holds (entryNamed name)) (replied k number)) s → memoryOf t
-        ≡ rowsAs (change (holds (entryOf v)) (replied k (v .number))) s
-    replies-one name number q h = h ∙ (λ i. rowsAs (change (holds (named-of v name number q i)) (replied k (q .number-is i))) s)
+    pub each-one : (name : List ℕ) (number : CsaNumber) → Named v name number
+        → memoryOf t ≡ rowsAs (change (holds (entryNamed name)) (f number)) s → memoryOf t ≡ rowsAs (change (holds (entryOf v)) (f (v .number))) s
+    each-one name number q h = h ∙ (λ i. rowsAs (change (holds (named-of v name number q i)) (f (q .number-is i))) s)
 
-    module _ (one : memoryOf t ≡ rowsAs (change (holds (entryOf v)) (replied k (v .number))) s) where
-      pub replies-then : (all rs : List CsaRecord) → all ≡ v ∷ rs → (u : List ℕ) → memoryOf u ≡ rowsAs (allReplied k rs) t → memoryOf u
-          ≡ rowsAs (allReplied k all) s
-      replies-then all rs e u rest =
-          let r = rows-are s t (change (holds (entryOf v)) (replied k (v .number)) (rowsIn s)) one in
-          rest ∙ (λ i. withRows (allReplied k rs (r i)) (one i)) ∙ ap (λ (l : List CsaRecord). rowsAs (allReplied k l) s) (sym e)
+    module _ (one : memoryOf t ≡ rowsAs (change (holds (entryOf v)) (f (v .number))) s) where
+      pub each-rows : rowsIn t ≡ change (holds (entryOf v)) (f (v .number)) (rowsIn s)
+      each-rows = rows-are s t (change (holds (entryOf v)) (f (v .number)) (rowsIn s)) one
+
+      pub each-then : (all rs : List CsaRecord) → all ≡ v ∷ rs → (u : List ℕ) → memoryOf u ≡ rowsAs (eachRow f rs) t → memoryOf u ≡ rowsAs (eachRow f all) s
+      each-then all rs e u rest =
+          rest ∙ (λ i. withRows (eachRow f rs (each-rows i)) (one i)) ∙ ap (λ (l : List CsaRecord). rowsAs (eachRow f l) s) (sym e)

@@ -6,23 +6,26 @@ use mathlib.Core.Bool.{Bool}
 use mathlib.Core.List.{List, [], _∷_, _++_}
 use Rattle.laws.specs.Lists.{All}
 use Rattle.laws.specs.Choice.{pick}
+use Rattle.laws.specs.Tables.{change}
 use Rattle.protocol.specs.declared.CsaNumber.{CsaNumber}
 use Rattle.protocol.specs.Numbers.{newer}
 use Rattle.protocol.specs.Messages.{CsaRecord}
 use Rattle.protocol.specs.Sizes.{idLength}
 use Rattle.protocol.specs.Reading as reading
-use Rattle.rules.specs.Requests.{Wanted, allTakenIn}
+use Rattle.rules.specs.Server.{holds}
+use Rattle.rules.specs.Requests.{entryOf, Wanted, allTakenIn}
 use Rattle.rules.specs.Updates as rules
-use Rattle.rules.specs.Updates.{hopsMost, recordOf, nullRecord, updateRule, rowsBy, requestsBy, Updated, allUpdated}
+use Rattle.rules.specs.Updates.{hopsMost, recordOf, nullRecord, solicited, answerWaits, updateRule, rowsBy, requestsBy, Updated, allUpdated}
 use Rattle.memory.specs.Memory.{rowEntry, valueAt, rowsIn, memoryOf, withRows, requestsPut, requestsOf}
 use Rattle.memory.specs.Search.{FitsRow}
 use Rattle.memory.specs.Lists.{wantedNow}
+use Rattle.memory.specs.Entries.{rowsAs}
 use Rattle.wire.specs.declared.record.Cursor.{Cursor}
 use Rattle.wire.specs.Views.{recordsOf}
 use Rattle.records.specs.declared.put.Placed.{Placed}
 use Rattle.records.specs.declared.standing.UpdateRule.{UpdateRule}
 use Rattle.records.specs.declared.standing.UpdateRule.the-variants.{Null, PurgeAbsent, Full, Stored, Equal, Older}
-use Rattle.records.specs.Places.{Adds, replyOf}
+use Rattle.records.specs.Places.{Puts, Adds, replyOf}
 
 -- a record that a row has room for
 abbrev pub Fits : CsaRecord → Type 0
@@ -67,6 +70,11 @@ abbrev pub answerBy : CsaRecord → List ℕ → ℕ → CsaRecord
 answerBy r s i =
     let v = valueAt s i in
     pick (newer (r .number) (v .number)) (nullRecord r) (recordOf hopsMost (rowEntry s i) v)
+
+-- the answer to a record from slot k is put, and what was sent waits for the slot
+pub record Solicits (k : ℕ) (v : CsaRecord) (before after : List ℕ) (at : ℕ) (out out′ : List ℕ) (n : ℕ) : Type 0 where
+  pub answer : Puts 64 (solicited (rowsIn before) v ∷ []) at out out′ n
+  pub waits : memoryOf after ≡ rowsAs (change (holds (entryOf v)) (answerWaits k (v .number))) before
 
 -- ---- update records
 -- the rule of each case

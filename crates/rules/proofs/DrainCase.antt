@@ -3,51 +3,21 @@
 -- Assumes nothing.
 use Prim.Native.Nat.{ℕ}
 use mathlib.Core.Path.{_≡_, refl}
-use mathlib.Core.Bool.{false}
 use mathlib.Core.List.{List, [], _∷_, _++_, map}
-use Rattle.protocol.specs.declared.CaFlags.{CaFlags}
 use Rattle.protocol.specs.declared.Alignment.{Alignment}
 use Rattle.protocol.specs.declared.Alignment.the-variants.{Down, Negotiate, Aligned}
-use Rattle.protocol.specs.Numbers.{caNumber}
-use Rattle.protocol.specs.Messages.{Body, ca, csuReply, hello, summaryOf}
+use Rattle.protocol.specs.Messages.{csuReply, hello, summaryOf}
 use Rattle.protocol.specs.Checksum.{total}
 use Rattle.protocol.specs.Layouts.{recordOctets, recordsOctets, receiversOctets, mandatory, layout, packetOf}
 use Rattle.protocol.specs.Checks.{headCheck, elementCheck, elementsCheck, mandatoryCheck}
 use Rattle.protocol.specs.Answers.{fixedCode}
 use Rattle.protocol.specs.Reading.{recordAt, recordsAt, receiversAt, messageAt, readPacket}
-use Rattle.rules.specs.Server.{Settings, Server, fresh, slotAt, rowsUsed}
+use Rattle.rules.specs.Server.{Server, fresh, slotAt, rowsUsed}
 use Rattle.rules.specs.Rows.{next}
-use Rattle.rules.specs.Events.{Event, addPeer, linkUp, linkDown, packet, poll, set, purge, codeOf, acted, step, writtenAt, run}
+use Rattle.rules.specs.Events.{Event, linkUp, linkDown, purge, codeOf, acted, step, writtenAt, run}
 use Rattle.rules.specs.Demand3.{requestRecords}
 use Rattle.rules.specs.Drain.{waitingFor}
-
--- the ID 10.0.0.n
-abbrev server : ℕ → List ℕ
-server n = 10 ∷ 0 ∷ 0 ∷ n ∷ []
-
-abbrev settings : Settings
-settings = record { id = server 2; protocol = 2; group = 7; interval = 100; factor = 3 }
-
--- a packet of 10.0.0.1, the peer in slot 0
-abbrev says : ℕ → Body → Event
-says now b = packet 0 now (packetOf (record { protocol = 2; group = 7; sender = server 1; receiver = server 2; body = b })) 284
-
-abbrev polled : ℕ → Event
-polled now = poll 0 now 284
-
-abbrev noFlags : CaFlags
-noFlags = record { master = false; initial = false; more = false }
-
--- the slot is Aligned
-abbrev begun : List Event
-begun =
-    addPeer 0 (server 1) ∷ linkUp 0 1 ∷ says 1 (hello 100 10 []) ∷ polled 1 ∷ polled 2 ∷ says 2 (ca (caNumber 1) noFlags [])
-    ∷ says 2 (ca (caNumber 2) noFlags []) ∷ []
-
--- keys of one octet, all with the payload x
-abbrev sets : ℕ → List ℕ → List Event
-sets x [] = []
-sets x (k ∷ ks) = set (k ∷ []) (x ∷ []) ∷ sets x ks
+use Rattle.rules.proofs.CaseEvents.{settings, says, polled, begun, sets}
 
 -- how many wait, the next row, the count, the rows in use, and the state
 record Shown : Type 0 where
@@ -79,7 +49,7 @@ abbrev play : List Action → Server → List Shown
 play [] s = []
 play (does es ∷ more) s = play more (run s es)
 play (round now ∷ more) s =
-    play more (step (step s (polled now)) (says now (csuReply (map summaryOf (requestRecords (writtenAt s (polled now)))))))
+    play more (step (step s (polled 0 now)) (says 0 now (csuReply (map summaryOf (requestRecords (writtenAt s (polled 0 now)))))))
 play (look ∷ more) s = shown s ∷ play more s
 
 -- A to D are sent; then they change, A is purged, and E to I are new
@@ -90,7 +60,7 @@ backlog =
 
 abbrev drain : List Action
 drain =
-    round 4 ∷ round 5 ∷ look ∷ round 6 ∷ look ∷ does (linkDown 0 8 ∷ []) ∷ look ∷ does (linkUp 0 8 ∷ says 8 (hello 100 10 []) ∷ []) ∷ look ∷ []
+    round 4 ∷ round 5 ∷ look ∷ round 6 ∷ look ∷ does (linkDown 0 8 ∷ []) ∷ look ∷ does (linkUp 0 8 ∷ says 0 8 (hello 100 10 []) ∷ []) ∷ look ∷ []
 
 drained : play (backlog ++ drain) (fresh settings)
     ≡ expect 9 4 1 9 Aligned ∷ expect 1 3 3 8 Aligned ∷ expect 0 4 4 8 Aligned ∷ expect 0 0 4 8 Down ∷ expect 0 0 0 8 Negotiate ∷ []

@@ -13,7 +13,7 @@ use Rattle.protocol.specs.Numbers.{newer}
 use Rattle.protocol.specs.Messages.{CsaRecord}
 use Rattle.rules.specs.Server.{Entry, sameEntry, Value, Row, free, used, isFree, isUsed, holds}
 use Rattle.rules.specs.Rows.{entryRow, unmarked}
-use Rattle.rules.specs.Updates.{changedRow, purgedRow, renewed, waitsAgain, replied}
+use Rattle.rules.specs.Updates.{changedRow, purgedRow, renewed, waitsAgain, replied, answerWaits}
 
 pub entry-refl : (e : Entry) → sameEntry e e ≡ true
 entry-refl e = rw (same-refl (e .key)) (same-refl (e .originator))
@@ -70,6 +70,11 @@ alike-replied k n (used e v m) =
     let q : Row = used e v (on k false m) in
     pick-of (Alike r) (newer n (v .number)) r _ (alike-used e v v m m)
     (pick-of (Alike r) (newer (v .number) n) r q (alike-used e v v m m) (alike-used e v v m (on k false m)))
+
+pub alike-answerWaits : (k : ℕ) (n : CsaNumber) (r : Row) → Alike r (answerWaits k n r)
+alike-answerWaits k n free = alike-free
+alike-answerWaits k n (used e v m) =
+    pick-of (Alike (used e v m)) (newer n (v .number)) (used e v m) (waitsAgain k (used e v m)) (alike-used e v v m m) (alike-used e v v m _)
 
 module _ (live : ℕ → Bool) where
   pub alike-renewed : (k : ℕ) (c : CsaRecord) (r : Row) → Alike r (renewed live k c r)

@@ -23,7 +23,7 @@ use Rattle.rules.specs.Events.{readRows, rowsChanged, acted, serverIf, s
 use Rattle.rules.specs.Demand3.{rowNumber}
 use Rattle.rules.proofs.Relation.{SizedEntry, Sized, RowsInv, Inv}
 use Rattle.rules.proofs.RowGrows.{Keep, Grows, grows-refl, grows-trans}
-use Rattle.rules.proofs.RowsKeep.{grows-updated, grows-all-replied, grows-set, grows-withdraw, grows-purge, read-sized}
+use Rattle.rules.proofs.RowsKeep.{grows-updated, grows-all-replied, grows-answers, grows-set, grows-withdraw, grows-purge, read-sized}
 use Rattle.rules.proofs.SlotsKeep.{slots-length, slots-peered, grows-cleared}
 use Rattle.rules.proofs.Ends.{swept-freed, changedRows, rowsAt, acted-rows}
 use Rattle.rules.proofs.Others.{slots-acted}
@@ -48,7 +48,8 @@ grows-body s k p m v e (csuRequest rs) q u =
     grows-updated (liveIn (s .slots)) k (past-live (slotAt s k .link .alignment) u) rs (read-sized p m rs e q)
     (record { rows = s .rows; requests = []; replies = [] }) v
 grows-body s k p m v e (csuReply rs) q u = grows-all-replied (liveIn (s .slots)) k rs (s .rows) v
-grows-body s k p m v e (csus rs) q u = grows-refl (liveIn (s .slots)) (s .rows) v
+grows-body s k p m v e (csus rs) q u =
+    grows-answers (liveIn (s .slots)) k (past-live (slotAt s k .link .alignment) u) rs (s .rows) v
 
 grows-read : (s : Server) (k now : ℕ) (p : List ℕ) (room : ℕ) → RowsInv (liveIn (s .slots)) (s .rows)
     → counts (packet k now p room) (codeOf s (packet k now p room)) ≡ true

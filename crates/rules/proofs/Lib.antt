@@ -41,5 +41,8 @@ pub mod WrittenPacket
 pub mod Drain
 pub mod Rounds
 pub mod Drained
+pub mod CaseEvents
 pub mod DrainCase
+pub mod SolicitLaws
+pub mod SolicitCase
 pub mod RoundThere

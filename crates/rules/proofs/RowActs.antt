@@ -18,7 +18,7 @@ use Rattle.rules.specs.History.{Known, History, bodyEntries, readEntries
 use Rattle.rules.proofs.Relation.{Inv, seenOf, Sim}
 use Rattle.rules.proofs.RowsKeep.{read-sized}
 use Rattle.rules.proofs.RowSim.{sim-left-if, sim-swept}
-use Rattle.rules.proofs.RowChanges.{sim-updated, sim-answered, sim-set, sim-withdraw, sim-purge}
+use Rattle.rules.proofs.RowChanges.{sim-updated, sim-answered, sim-sent-for, sim-set, sim-withdraw, sim-purge}
 use Rattle.rules.proofs.Ends.{rowsAt, acted-rows}
 use Rattle.rules.proofs.CodeTold.{set-told, withdraw-told, purge-told, message-told, past-live}
 use Rattle.rules.proofs.PastLaws.{live-states, enters-states}
@@ -33,7 +33,8 @@ module _ (s : Server) (es : List Known) (v : Inv s) (t : Sim (s .rows) es) where
       sim-updated (liveIn (s .slots)) k (past-live (alignmentAt (s .slots) k) u) rs
       (read-sized p m rs e eb) (s .rows) [] es (v .rows) t
   sim-body k p m e (csuReply rs) eb u = sim-answered (liveIn (s .slots)) k rs (s .rows) es (v .rows) t
-  sim-body k p m e (csus rs) eb u = t
+  sim-body k p m e (csus rs) eb u =
+      sim-sent-for (liveIn (s .slots)) k (past-live (alignmentAt (s .slots) k) u) rs (s .rows) es (v .rows) t
   sim-body k p m e (hello i f ids) eb u = t
 
   sim-read : (k now : ℕ) (p : List ℕ) (room : ℕ) → counts (packet k now p room) (codeOf s (packet k now p room)) ≡ true

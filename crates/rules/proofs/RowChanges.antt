@@ -1,4 +1,4 @@
--- The records of a CSU Request and of a CSU Reply, and changes of ours: rows and entries change alike.
+-- The records of a CSU Request, of a CSU Reply and of a CSUS, and changes of ours: rows and entries change alike.
 -- Assumes nothing.
 use Prim.Native.Nat.{ℕ}
 use mathlib.Core.Path.{_≡_, refl, sym, ap, _∙_}
@@ -16,17 +16,20 @@ use Rattle.rules.specs.Server.{Entry, Row, free, used, isFree, isUsed, h
 use Rattle.rules.specs.Rows.{entryRow, isPurged, unmarked, filled}
 use Rattle.rules.specs.Requests.{entryOf}
 use Rattle.rules.specs.Updates.{changedRow, setRows, purgedRow, purgeRows, null as noRecord, purgeAbsent, full as noRow, stored, equal, older}
-use Rattle.rules.specs.Updates.{ruleAt, updateRule, rowFor, renewed, waitsAgain, rowsBy, Updated, byRule, allUpdated, replied, allReplied}
+use Rattle.rules.specs.Updates.{ruleAt, updateRule, rowFor, renewed, waitsAgain, rowsBy, Updated, byRule, allUpdated, eachRow, replied, allReplied}
+use Rattle.rules.specs.Updates.{answerWaits, allAnswersWait}
 use Rattle.rules.specs.Packets.{updatedBy}
 use Rattle.rules.specs.Refusals.{rowSpent, rowPurged}
-use Rattle.rules.specs.History.{Known, nowHeld, isOf, admit, opened, arrived, noted, allNoted, answered, allAnswered, changed, created, purging}
+use Rattle.rules.specs.History.{Known, nowHeld, isOf, admit, opened, arrived, noted, allNoted, eachKnown, answered, allAnswered, sentFor, allSentFor}
+use Rattle.rules.specs.History.{changed, created, purging}
 use Rattle.rules.specs.Demand3.{rowOf}
 use Rattle.rules.proofs.Relation.{Alive, RowsInv, Sim}
-use Rattle.rules.proofs.RowsKeep.{SizedRecord, rows-by, rows-replied}
-use Rattle.rules.proofs.RowSim.{answered-of, opened-of, created-of, changed-of, purging-of, merged, arrived-of, sim-holds, sim-change, sim-admit}
-use Rattle.rules.proofs.RowSim.{sim-pick}
-use Rattle.rules.proofs.Entries.{row-there, Alike, alike-unmarked, alike-waitsAgain, alike-replied, alike-renewed, alike-changed, alike-purged}
-use Rattle.rules.proofs.RowGrows.{of-entry}
+use Rattle.rules.proofs.RowsKeep.{SizedRecord, rows-by, rows-one}
+use Rattle.rules.proofs.RowSim.{answered-of, sent-for-of, opened-of, created-of, changed-of, purging-of, merged, arrived-of, sim-holds, sim-change}
+use Rattle.rules.proofs.RowSim.{sim-admit, sim-pick}
+use Rattle.rules.proofs.Entries.{row-there, Alike, alike-unmarked, alike-waitsAgain, alike-replied, alike-answerWaits, alike-renewed, alike-changed}
+use Rattle.rules.proofs.Entries.{alike-purged}
+use Rattle.rules.proofs.RowGrows.{Good, good-replied, good-answerWaits, of-entry}
 
 -- ---- the records of a CSU Request
 -- how a number compares with the row's
@@ -101,15 +104,22 @@ pub sim-updated : (live : ℕ → Bool) (k : ℕ) → live k ≡ true → (rs : 
     (es : List Known) → RowsInv live rows → Sim rows es → Sim (updatedBy live k rs rows qs .rows) (allNoted live k rs es)
 sim-updated live k l rs z rows qs es v s = sim-all-noted live k l rs z (record { rows = rows; requests = qs; replies = [] }) es v s
 
--- ---- the records of a CSU Reply
+-- ---- the records of a CSU Reply or a CSUS: each changes the row of its entry as the history does the entry
+module _ (live : ℕ → Bool) (f : CsaNumber → Row → Row) (g : CsaRecord → Known → Known) (keeps : (n : CsaNumber) (x : Row) → Alike x (f n x))
+    (of : (r : CsaRecord) (x : Known) → f (r .number) (rowOf x) ≡ rowOf (g r x)) (good : (n : CsaNumber) (x : Row) → Good live x (f n x)) where
+  sim-each : (rs : List CsaRecord) (rows : List Row) (es : List Known) → RowsInv live rows → Sim rows es → Sim (eachRow f rs rows) (eachKnown g rs es)
+  sim-each [] rows es v s = s
+  sim-each (r ∷ rs) rows es v s =
+      sim-each rs (change (holds (entryOf r)) (f (r .number)) rows) (update (isOf (entryOf r)) (g r) es) (rows-one live f good r rows v)
+      (sim-change (entryOf r) (λ _. Unit {0}) (f (r .number)) (g r) (keeps (r .number)) (λ x _ _. of r x) rows es (λ _. tt) (v .once) s)
+
 pub sim-answered : (live : ℕ → Bool) (k : ℕ) (rs : List CsaRecord) (rows : List Row) (es : List Known) → RowsInv live rows → Sim rows es
     → Sim (allReplied k rs rows) (allAnswered k rs es)
-sim-answered live k [] rows es v s = s
-sim-answered live k (r ∷ rs) rows es v s =
-    sim-answered live k rs (change (holds (entryOf r)) (replied k (r .number)) rows) (update (isOf (entryOf r)) (answered k r) es)
-    (rows-replied live k r rows v)
-    (sim-change (entryOf r) (λ _. Unit {0}) (replied k (r .number)) (answered k r) (alike-replied k (r .number)) (λ x _ _. answered-of k r x) rows es
-    (λ _. tt) (v .once) s)
+sim-answered live k = sim-each live (replied k) (answered k) (alike-replied k) (answered-of k) (good-replied live k)
+
+pub sim-sent-for : (live : ℕ → Bool) (k : ℕ) → live k ≡ true → (rs : List CsaRecord) (rows : List Row) (es : List Known) → RowsInv live rows
+    → Sim rows es → Sim (allAnswersWait k rs rows) (allSentFor k rs es)
+sim-sent-for live k l = sim-each live (answerWaits k) (sentFor k) (alike-answerWaits k) (sent-for-of k) (good-answerWaits live k l)
 
 -- ---- changes of ours
 module _ (live : ℕ → Bool) (e : Entry) (rows : List Row) (es : List Known) (v : RowsInv live rows) (s : Sim rows es) where

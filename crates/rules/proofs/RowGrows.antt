@@ -21,7 +21,7 @@ use Rattle.protocol.specs.Numbers.{newer}
 use Rattle.protocol.specs.Messages.{CsaRecord}
 use Rattle.rules.specs.Server.{Entry, sameEntry, Value, Row, free, used, isFree, holds, rowAt}
 use Rattle.rules.specs.Rows.{entryRow, unmarked, spread, filled}
-use Rattle.rules.specs.Updates.{changedRow, purgedRow, valueOf, renewed, waitsAgain, replied}
+use Rattle.rules.specs.Updates.{changedRow, purgedRow, valueOf, renewed, waitsAgain, replied, answerWaits}
 use Rattle.rules.proofs.Relation.{Alive, SizedValue, Sized, RowsInv}
 use Rattle.rules.proofs.CsaOrder.{stepped-good}
 use Rattle.rules.proofs.Entries.{entry-true}
@@ -94,6 +94,12 @@ module _ (live : ℕ → Bool) where
       let x : Row = used e v m in
       pick-of (Good live x) (newer n (v .number)) x _ (good-refl x)
       (pick-of (Good live x) (newer (v .number) n) x (used e v (on k false m)) (good-refl x) (good-off k e v m))
+
+  pub good-answerWaits : (k : ℕ) → live k ≡ true → (n : CsaNumber) (x : Row) → Good live x (answerWaits k n x)
+  good-answerWaits k l n free = good-refl free
+  good-answerWaits k l n (used e v m) =
+      let x : Row = used e v m in
+      pick-of (Good live x) (newer n (v .number)) x (waitsAgain k x) (good-refl x) (good-waitsAgain k l x)
 
   -- ---- values
   pub good-renewed : (k : ℕ) (r : CsaRecord) → SizedValue (valueOf r) → (x : Row) → Older (r .number) x → Good live x (renewed live k r x)

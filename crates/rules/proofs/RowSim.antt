@@ -18,9 +18,9 @@ use Rattle.protocol.specs.Messages.{CsaRecord}
 use Rattle.rules.specs.Server.{rowsMost, Entry, Value, Row, free, used, isFree, holds, rowAt}
 use Rattle.rules.specs.Rows.{isPurged, unmarked, spread, filled, sweptRow, swept, clearedIf}
 use Rattle.rules.specs.Requests.{entryOf}
-use Rattle.rules.specs.Updates.{hopsMost, value, stepped, changedRow, newRow, purgedRow, valueOf, rowFor, renewed, waitsAgain, replied}
+use Rattle.rules.specs.Updates.{hopsMost, value, stepped, changedRow, newRow, purgedRow, valueOf, rowFor, renewed, waitsAgain, replied, answerWaits}
 use Rattle.rules.specs.History.{Act, put, take, waiting, Known, nowHeld, waitsAt, act, noActs, ownActs, storedActs, isOf, isDone, admit, opened}
-use Rattle.rules.specs.History.{arrived, answered, changed, created, purging, left, leftIf}
+use Rattle.rules.specs.History.{arrived, answered, sentFor, changed, created, purging, left, leftIf}
 use Rattle.rules.specs.Demand3.{rowOf, Once}
 use Rattle.rules.proofs.Relation.{Alive, Sim}
 use Rattle.rules.proofs.CsaOrder.{steps-up, purges-up}
@@ -77,6 +77,16 @@ answered-by k e v acts false false = ap (used e v) (sym (take-waits k acts))
 pub answered-of : (k : ℕ) (r : CsaRecord) (x : Known) → replied k (r .number) (rowOf x) ≡ rowOf (answered k r x)
 answered-of k r x =
     answered-by k (x .entry) (nowHeld x) (x .acts) (newer (r .number) (nowHeld x .number)) (newer (nowHeld x .number) (r .number))
+
+sent-for-by : (k : ℕ) (e : Entry) (v : Value) (acts : ℕ → List Act) (a b : Bool)
+    → pick a (used e v (waitsAt acts)) (used e v (pick b (on k true (waitsAt acts)) (waitsAt acts)))
+    ≡ used e v (waitsAt (pick a acts (pick b (act k put acts) acts)))
+sent-for-by k e v acts true b = refl
+sent-for-by k e v acts false true = ap (used e v) (sym (put-waits k acts))
+sent-for-by k e v acts false false = refl
+
+pub sent-for-of : (k : ℕ) (r : CsaRecord) (x : Known) → answerWaits k (r .number) (rowOf x) ≡ rowOf (sentFor k r x)
+sent-for-of k r x = sent-for-by k (x .entry) (nowHeld x) (x .acts) (newer (r .number) (nowHeld x .number)) (ltb 0 (nowHeld x .remaining))
 
 module _ (live : ℕ → Bool) where
   pub opened-of : (k : ℕ) (r : CsaRecord) → rowFor live k r ≡ rowOf (opened live k r)

@@ -1,4 +1,4 @@
--- The rows after each record of a CSU Request or CSU Reply, and after each change of ours.
+-- The rows after each record of a CSU Request, CSU Reply or CSUS, and after each change of ours.
 -- Assumes nothing.
 use Prim.Native.Nat.{ℕ, _+_, _-_, _≤_}
 use mathlib.Core.Path.{_≡_, refl, ap, _∙_}
@@ -15,6 +15,7 @@ use Rattle.protocol.specs.declared.Kind.the-variants.{Ca, CsuRequest, CsuReply,
 use Rattle.protocol.specs.declared.Checked.the-variants.{Fine}
 use Rattle.protocol.specs.Sizes.{idLength, payloadMost}
 use Rattle.protocol.specs.Fields.{octet, field4}
+use Rattle.protocol.specs.declared.CsaNumber.{CsaNumber}
 use Rattle.protocol.specs.Numbers.{newer}
 use Rattle.protocol.specs.Messages.{CsaRecord, Message, csuRequest}
 use Rattle.protocol.specs.Checks.{countAt, elementsAt, elementsCheck}
@@ -26,11 +27,12 @@ use Rattle.rules.specs.Server.{Entry, Value, Row, free, used, isFree, is
 use Rattle.rules.specs.Rows.{entryRow, isPurged, unmarked, filled}
 use Rattle.rules.specs.Requests.{entryOf}
 use Rattle.rules.specs.Updates.{changedRow, newRow, setRows, withdrawRows, purgedRow, purgeRows, null as noRecord, purgeAbsent, full, stored, equal}
-use Rattle.rules.specs.Updates.{older, ruleAt, updateRule, valueOf, renewed, waitsAgain, rowsBy, Updated, byRule, allUpdated, replied, allReplied}
+use Rattle.rules.specs.Updates.{older, ruleAt, updateRule, valueOf, renewed, waitsAgain, rowsBy, Updated, byRule, allUpdated, eachRow, replied, allReplied}
+use Rattle.rules.specs.Updates.{answerWaits, allAnswersWait}
 use Rattle.rules.proofs.Relation.{SizedEntry, SizedValue, RowsInv}
 use Rattle.rules.proofs.Entries.{row-there}
-use Rattle.rules.proofs.RowGrows.{Older, spread-live, good-unmarked, good-waitsAgain, good-replied, good-renewed, good-changed, good-purged, Grows}
-use Rattle.rules.proofs.RowGrows.{grows-refl, grows-trans, grows-change, grows-filled, of-entry}
+use Rattle.rules.proofs.RowGrows.{Older, Good, spread-live, good-unmarked, good-waitsAgain, good-replied, good-answerWaits, good-renewed, good-changed}
+use Rattle.rules.proofs.RowGrows.{good-purged, Grows, grows-refl, grows-trans, grows-change, grows-filled, of-entry}
 
 abbrev pub SizedRecord : CsaRecord → Type 0
 SizedRecord r = SizedEntry (entryOf r) × SizedValue (valueOf r)
@@ -79,21 +81,31 @@ grows-updated live k l (r ∷ rs) z x v =
     let g : Grows live (x .rows) (y .rows) = grows-by live k r (x .rows) l (z .0) v in
     grows-trans (x .rows) (y .rows) (allUpdated live k rs y .rows) g (grows-updated live k l rs (z .1) y (g .inv))
 
--- ---- a record of a CSU Reply
-grows-replied : (live : ℕ → Bool) (k : ℕ) (r : CsaRecord) (rows : List Row) → RowsInv live rows
-    → Grows live rows (change (holds (entryOf r)) (replied k (r .number)) rows)
-grows-replied live k r rows v = grows-change live rows v (holds (entryOf r)) (replied k (r .number)) (λ i _. good-replied live k (r .number) (rowAt rows i))
+-- ---- the records of a CSU Reply or a CSUS: each changes the row of its entry well
+module _ (live : ℕ → Bool) (f : CsaNumber → Row → Row) (good : (n : CsaNumber) (x : Row) → Good live x (f n x)) where
+  grows-one : (r : CsaRecord) (rows : List Row) → RowsInv live rows → Grows live rows (change (holds (entryOf r)) (f (r .number)) rows)
+  grows-one r rows v = grows-change live rows v (holds (entryOf r)) (f (r .number)) (λ i _. good (r .number) (rowAt rows i))
+
+  pub rows-one : (r : CsaRecord) (rows : List Row) → RowsInv live rows → RowsInv live (change (holds (entryOf r)) (f (r .number)) rows)
+  rows-one r rows v = grows-one r rows v .inv
+
+  grows-each : (rs : List CsaRecord) (rows : List Row) → RowsInv live rows → Grows live rows (eachRow f rs rows)
+  grows-each [] rows v = grows-refl live rows v
+  grows-each (r ∷ rs) rows v =
+      let y : List Row = change (holds (entryOf r)) (f (r .number)) rows in
+      let g : Grows live rows y = grows-one r rows v in
+      grows-trans rows y (eachRow f rs y) g (grows-each rs y (g .inv))
 
 pub rows-replied : (live : ℕ → Bool) (k : ℕ) (r : CsaRecord) (rows : List Row) → RowsInv live rows
     → RowsInv live (change (holds (entryOf r)) (replied k (r .number)) rows)
-rows-replied live k r rows v = grows-replied live k r rows v .inv
+rows-replied live k = rows-one live (replied k) (good-replied live k)
 
 pub grows-all-replied : (live : ℕ → Bool) (k : ℕ) (rs : List CsaRecord) (rows : List Row) → RowsInv live rows → Grows live rows (allReplied k rs rows)
-grows-all-replied live k [] rows v = grows-refl live rows v
-grows-all-replied live k (r ∷ rs) rows v =
-    let y : List Row = change (holds (entryOf r)) (replied k (r .number)) rows in
-    let g : Grows live rows y = grows-replied live k r rows v in
-    grows-trans rows y (allReplied k rs y) g (grows-all-replied live k rs y (g .inv))
+grows-all-replied live k rs rows v = grows-each live (replied k) (good-replied live k) rs rows v
+
+pub grows-answers : (live : ℕ → Bool) (k : ℕ) → live k ≡ true → (rs : List CsaRecord) (rows : List Row) → RowsInv live rows
+    → Grows live rows (allAnswersWait k rs rows)
+grows-answers live k l rs rows v = grows-each live (answerWaits k) (good-answerWaits live k l) rs rows v
 
 -- ---- changes of ours
 module _ (live : ℕ → Bool) (e : Entry) (rows : List Row) (v : RowsInv live rows) where

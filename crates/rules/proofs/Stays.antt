@@ -8,6 +8,7 @@ use lib.ListN.{List·getD-map}
 use Rattle.laws.specs.Choice.{pick}
 use Rattle.laws.specs.Tables.{has, change}
 use Rattle.laws.proofs.Cells.{has-true, has-false, each-change}
+use Rattle.protocol.specs.declared.CsaNumber.{CsaNumber}
 use Rattle.protocol.specs.Sizes.{idLength}
 use Rattle.protocol.specs.Numbers.{firstNumber}
 use Rattle.protocol.specs.Messages.{CsaRecord, Body, ca, csuRequest, csuReply, csus, hello}
@@ -17,13 +18,14 @@ use Rattle.rules.specs.Links.{enters}
 use Rattle.rules.specs.Rows.{unmarked, spread, filled, swept, clearedIf}
 use Rattle.rules.specs.Requests.{entryOf}
 use Rattle.rules.specs.Updates.{hopsMost, value, changedRow, purgedRow, UpdateRule, null, purgeAbsent, full, stored, equal, older, updateRule}
-use Rattle.rules.specs.Updates.{valueOf, renewed, waitsAgain, rowsBy, Updated, byRule, allUpdated, replied, allReplied}
+use Rattle.rules.specs.Updates.{valueOf, renewed, waitsAgain, rowsBy, Updated, byRule, allUpdated, eachRow, replied, answerWaits}
 use Rattle.rules.specs.Packets.{rowsOn}
 use Rattle.rules.specs.Refusals.{ownEntry}
 use Rattle.rules.specs.Events.{Event, addPeer, linkUp, linkDown, packet, poll, set, withdraw, purge, counts, codeOf, Place, inSlot, nowhere}
 use Rattle.rules.specs.Events.{placeOf, alignmentAt, liveIn, slotsAfter, readRows, rowsChanged, cleared, serverIf, step}
 use Rattle.rules.proofs.Relation.{Inv}
-use Rattle.rules.proofs.Entries.{holds-along, Alike, alike-unmarked, alike-waitsAgain, alike-replied, alike-renewed, alike-changed, alike-purged}
+use Rattle.rules.proofs.Entries.{holds-along, Alike, alike-unmarked, alike-waitsAgain, alike-replied, alike-answerWaits, alike-renewed, alike-changed}
+use Rattle.rules.proofs.Entries.{alike-purged}
 use Rattle.rules.proofs.Ends.{changedRows, rowsAt, acted-rows}
 use Rattle.rules.proofs.Invariant.{swept-at, swept-holds}
 
@@ -73,18 +75,18 @@ module _ (x : Entry) (i : ℕ) where
   only-updated live k (r ∷ rs) u o =
       only-updated live k rs (byRule (updateRule r (u .rows)) live k r u) (only-rule (updateRule r (u .rows)) live k r (u .rows) o)
 
-  only-replied : (k : ℕ) (rs : List CsaRecord) (rows : List Row) → Only rows → Only (allReplied k rs rows)
-  only-replied k [] rows o = o
-  only-replied k (r ∷ rs) rows o =
-      only-replied k rs (change (holds (entryOf r)) (replied k (r .number)) rows)
-      (only-change (holds (entryOf r)) (replied k (r .number)) (alike-replied k (r .number)) rows o)
+  only-records : (f : CsaNumber → Row → Row) → ((n : CsaNumber) (r : Row) → Alike r (f n r)) → (rs : List CsaRecord) (rows : List Row) → Only rows
+      → Only (eachRow f rs rows)
+  only-records f h [] rows o = o
+  only-records f h (r ∷ rs) rows o =
+      only-records f h rs (change (holds (entryOf r)) (f (r .number)) rows) (only-change (holds (entryOf r)) (f (r .number)) (h (r .number)) rows o)
 
   only-body : (b : Body) (live : ℕ → Bool) (k : ℕ) (rows : List Row) → Only rows → Only (rowsOn b live k rows)
   only-body (hello t f ids) live k rows o = o
   only-body (ca n f rs) live k rows o = o
   only-body (csuRequest rs) live k rows o = only-updated live k rs (record { rows = rows; requests = []; replies = [] }) o
-  only-body (csuReply rs) live k rows o = only-replied k rs rows o
-  only-body (csus rs) live k rows o = o
+  only-body (csuReply rs) live k rows o = only-records (replied k) (alike-replied k) rs rows o
+  only-body (csus rs) live k rows o = only-records (answerWaits k) (alike-answerWaits k) rs rows o
 
   only-read : (r : Reading) (live : ℕ → Bool) (k : ℕ) (rows : List Row) → Only rows → Only (readRows r live k rows)
   only-read (refused c) live k rows o = o

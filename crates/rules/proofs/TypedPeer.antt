@@ -32,7 +32,7 @@ use Rattle.rules.specs.Poll.{firstFlags, firstCaOf, dueSent, dueSlot, ke
 use Rattle.rules.specs.Refusals.{isHello}
 use Rattle.laws.proofs.Bools.{pick-of}
 use Rattle.rules.proofs.Typed.{GoodSettings, Ours, KeptFor}
-use Rattle.rules.proofs.TypedRows.{TypedRows, replied-all}
+use Rattle.rules.proofs.TypedRows.{TypedRows, replied-all, answers-all}
 use Rattle.rules.proofs.TypedRecords.{GoodRequests, GoodUpdated, all-updated, all-taken-in, rotated-good, replies-good, all-solicited}
 use Rattle.rules.proofs.TypedRecords.{summaries-good, waiting-good, requests-good}
 use Rattle.rules.proofs.TypedSlots.{SlotFor, hello-good, check-good, ca-good, timers-kept, kept-kept, listed-kept, cursor-kept, requests-kept}
@@ -160,7 +160,7 @@ module _ (s : Settings) (peer : List ℕ) (ts : GoodSettings s) (i : Id idLength
     rows-on (ca n f rs) live k h = tr
     rows-on (csuRequest rs) live k h = updated live k rs [] h tt .rows
     rows-on (csuReply rs) live k h = replied-all k rs rows tr
-    rows-on (csus rs) live k h = tr
+    rows-on (csus rs) live k h = answers-all k rs rows tr
     rows-on (hello t f ids) live k h = tr
 
     pub sent-on : (b : Body) (live : ℕ → Bool) (k : ℕ) (m : Message) (x : Slot) → GoodBody idLength b → SlotFor s peer x

@@ -24,7 +24,8 @@ use Rattle.rules.specs.Server.{Entry, Value, Row, free, used, isFree, ho
 use Rattle.rules.specs.Rows.{entryRow, unmarked, spread, filled, toFree, sweptRow, swept, sweptIf, clearedIf}
 use Rattle.rules.specs.Requests.{entryOf}
 use Rattle.rules.specs.Updates.{hopsMost, value, stepped, changedRow, newRow, setRows, withdrawRows, purgedRow, purgeRows, UpdateRule, null}
-use Rattle.rules.specs.Updates.{purgeAbsent, full, stored, equal, older, valueOf, rowFor, renewed, waitsAgain, rowsBy, replied, allReplied}
+use Rattle.rules.specs.Updates.{purgeAbsent, full, stored, equal, older, valueOf, rowFor, renewed, waitsAgain, rowsBy, eachRow, replied}
+use Rattle.rules.specs.Updates.{allReplied, answerWaits, allAnswersWait}
 use Rattle.rules.specs.Refusals.{rowSpent}
 use Rattle.laws.proofs.Each.{all-map, all-change}
 use Rattle.laws.proofs.Bools.{pick-of}
@@ -188,6 +189,11 @@ replied-typed k n (used e v m) g =
     pick-of TypedRow (newer n (v .number)) (used e v m) (pick (newer (v .number) n) (used e v m) (used e v (on k false m))) g
     (pick-of TypedRow (newer (v .number) n) (used e v m) (used e v (on k false m)) g (unmarked-good k e v m g))
 
+answerWaits-typed : (k : ℕ) (n : CsaNumber) (r : Row) → TypedRow r → TypedRow (answerWaits k n r)
+answerWaits-typed k n free g = tt
+answerWaits-typed k n (used e v m) g =
+    pick-of TypedRow (newer n (v .number)) (used e v m) (waitsAgain k (used e v m)) g (waitsAgain-typed k (used e v m) g)
+
 -- ---- all rows
 abbrev pub TypedRows : List Row → Type 0
 TypedRows rows = All TypedRow rows
@@ -233,8 +239,14 @@ rows-by stored live k r rows u g =
 rows-by equal live k r rows u g = changing (holds (entryOf r)) (unmarked k) (unmarked-typed k) rows g
 rows-by older live k r rows u g = changing (holds (entryOf r)) (waitsAgain k) (waitsAgain-typed k) rows g
 
+each-typed : (f : CsaNumber → Row → Row) → ((n : CsaNumber) (r : Row) → TypedRow r → TypedRow (f n r)) → (rs : List CsaRecord) (rows : List Row)
+    → TypedRows rows → TypedRows (eachRow f rs rows)
+each-typed f h [] rows g = g
+each-typed f h (r ∷ rs) rows g =
+    each-typed f h rs (change (holds (entryOf r)) (f (r .number)) rows) (changing (holds (entryOf r)) (f (r .number)) (h (r .number)) rows g)
+
 pub replied-all : (k : ℕ) (rs : List CsaRecord) (rows : List Row) → TypedRows rows → TypedRows (allReplied k rs rows)
-replied-all k [] rows g = g
-replied-all k (r ∷ rs) rows g =
-    replied-all k rs (change (holds (entryOf r)) (replied k (r .number)) rows)
-    (changing (holds (entryOf r)) (replied k (r .number)) (replied-typed k (r .number)) rows g)
+replied-all k = each-typed (replied k) (replied-typed k)
+
+pub answers-all : (k : ℕ) (rs : List CsaRecord) (rows : List Row) → TypedRows rows → TypedRows (allAnswersWait k rs rows)
+answers-all k = each-typed (answerWaits k) (answerWaits-typed k)

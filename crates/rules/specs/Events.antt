@@ -154,7 +154,7 @@ abbrev pub cleared : Place → List Slot → List Slot → List Row → List Row
 cleared (inSlot k) before after rows = clearedIf (enters (alignmentAt before k) (alignmentAt after k)) k rows
 cleared nowhere before after rows = rows
 
--- whether rows may be changed: else none has to be freed
+-- whether rows may be changed so that one has to be freed; the puts of a CSUS free none
 abbrev pub bodyChanges : Body → Bool
 bodyChanges (hello i f ids) = false
 bodyChanges (ca n f rs) = false

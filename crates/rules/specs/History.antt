@@ -122,6 +122,11 @@ abbrev pub allNoted : (ℕ → Bool) → ℕ → List CsaRecord → List Known �
 allNoted live k [] es = es
 allNoted live k (r ∷ rs) es = allNoted live k rs (noted live k r es)
 
+-- each record in order acts on its entry
+abbrev pub eachKnown : (CsaRecord → Known → Known) → List CsaRecord → List Known → List Known
+eachKnown f [] es = es
+eachKnown f (r ∷ rs) es = eachKnown f rs (update (isOf (entryOf r)) (f r) es)
+
 -- ---- the records of a CSU Reply: 'a reply from it with the held number' is a take
 abbrev pub answered : ℕ → CsaRecord → Known → Known
 answered k r x =
@@ -130,8 +135,18 @@ answered k r x =
     (pick (newer (nowHeld x .number) (r .number)) (x .acts) (act k take (x .acts))))
 
 abbrev pub allAnswered : ℕ → List CsaRecord → List Known → List Known
-allAnswered k [] es = es
-allAnswered k (r ∷ rs) es = allAnswered k rs (update (isOf (entryOf r)) (answered k r) es)
+allAnswered k rs es = eachKnown (answered k) rs es
+
+-- ---- the records of a CSUS: what is held is sent unless it is older than what was asked for, and that is a put if 'its remaining hops are
+-- 1 or more' (document 02, L2)
+abbrev pub sentFor : ℕ → CsaRecord → Known → Known
+sentFor k r x =
+    known (x .entry) (x .arrivals)
+    (pick (newer (r .number) (nowHeld x .number)) (x .acts)
+    (pick (ltb 0 (nowHeld x .remaining)) (act k put (x .acts)) (x .acts)))
+
+abbrev pub allSentFor : ℕ → List CsaRecord → List Known → List Known
+allSentFor k rs es = eachKnown (sentFor k) rs es
 
 -- ---- changes of ours
 abbrev pub changed : (ℕ → Bool) → List ℕ → Known → Known
@@ -159,7 +174,7 @@ bodyEntries (hello i f ids) live k es = es
 bodyEntries (ca n f rs) live k es = es
 bodyEntries (csuRequest rs) live k es = allNoted live k rs es
 bodyEntries (csuReply rs) live k es = allAnswered k rs es
-bodyEntries (csus rs) live k es = es
+bodyEntries (csus rs) live k es = allSentFor k rs es
 
 abbrev pub readEntries : Reading → (ℕ → Bool) → ℕ → List Known → List Known
 readEntries (refused c) live k es = es

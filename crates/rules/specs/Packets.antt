@@ -9,7 +9,7 @@ use Rattle.laws.specs.Tables.{has, same}
 use Rattle.protocol.specs.Messages.{CsaRecord, summaryOf, Message, Body, ca, csuRequest, csuReply, csus, hello}
 use Rattle.rules.specs.Server.{Settings, Row, Request, Slot}
 use Rattle.rules.specs.Links.{helloMove, malformedMove}
-use Rattle.rules.specs.Updates.{Updated, allUpdated, allReplied, allSolicited}
+use Rattle.rules.specs.Updates.{Updated, allUpdated, allReplied, allSolicited, allAnswersWait}
 use Rattle.rules.specs.Slots.{toPeer, moved, withKept, withRequests, completed}
 use Rattle.rules.specs.Sent.{Sent, nothing, newPacket}
 use Rattle.rules.specs.Alignment.{caPacket, ruleFor, caSentBy, caSlot}
@@ -47,7 +47,7 @@ rowsOn (hello i f ids) live k rows = rows
 rowsOn (ca n f rs) live k rows = rows
 rowsOn (csuRequest rs) live k rows = updatedBy live k rs rows [] .rows
 rowsOn (csuReply rs) live k rows = allReplied k rs rows
-rowsOn (csus rs) live k rows = rows
+rowsOn (csus rs) live k rows = allAnswersWait k rs rows
 
 -- ---- what is written
 abbrev pub sentOn : Body → Settings → (ℕ → Bool) → ℕ → List Row → Message → Slot → Sent

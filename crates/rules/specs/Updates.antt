@@ -133,14 +133,18 @@ abbrev pub allUpdated : (ℕ → Bool) → ℕ → List CsaRecord → Updated �
 allUpdated live k [] x = x
 allUpdated live k (r ∷ rs) x = allUpdated live k rs (byRule (updateRule r (x .rows)) live k r x)
 
+-- each record in order changes the row of its entry, by its number
+abbrev pub eachRow : (CsaNumber → Row → Row) → List CsaRecord → List Row → List Row
+eachRow f [] rows = rows
+eachRow f (r ∷ rs) rows = eachRow f rs (change (holds (entryOf r)) (f (r .number)) rows)
+
 -- ---- the records of a CSU Reply: 'a reply from it with the held number' is a take
 abbrev pub replied : ℕ → CsaNumber → Row → Row
 replied k n free = free
 replied k n (used e v m) = pick (newer n (v .number)) (used e v m) (pick (newer (v .number) n) (used e v m) (used e v (on k false m)))
 
 abbrev pub allReplied : ℕ → List CsaRecord → List Row → List Row
-allReplied k [] rows = rows
-allReplied k (r ∷ rs) rows = allReplied k rs (change (holds (entryOf r)) (replied k (r .number)) rows)
+allReplied k rs rows = eachRow (replied k) rs rows
 
 -- ---- the records of a CSUS: 'a record for each in order, hop count 16; absent or held with a smaller number: N set, the asked
 -- number, hop count 1'
@@ -166,3 +170,11 @@ solicited rows r = solicitedOf r (entryRow (entryOf r) rows)
 
 abbrev pub allSolicited : List Row → List CsaRecord → List CsaRecord
 allSolicited rows rs = map (solicited rows) rs
+
+-- document 02, L2: 'Every record with N clear sent for a CSUS becomes a put for that slot, if its remaining hops are 1 or more'
+abbrev pub answerWaits : ℕ → CsaNumber → Row → Row
+answerWaits k n free = free
+answerWaits k n (used e v m) = pick (newer n (v .number)) (used e v m) (waitsAgain k (used e v m))
+
+abbrev pub allAnswersWait : ℕ → List CsaRecord → List Row → List Row
+allAnswersWait k rs rows = eachRow (answerWaits k) rs rows

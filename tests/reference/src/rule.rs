@@ -172,6 +172,11 @@ rules! {
     CsusHeld: "CSUS: held, hop count 16",
     CsusAbsent: "CSUS: absent, N set, hop count 1",
     CsusSmaller: "CSUS: held with a smaller number, N set, hop count 1",
+    // 02, L2: what is sent for a CSUS waits
+    PutSent: "put: a record sent for a CSUS, N clear",
+    PutSentAgain: "put: sent for a CSUS while it waits, twice is once",
+    PutSentPurged: "put: a purged row sent for a CSUS stays for this slot too",
+    SentNoHops: "no put: sent for a CSUS, remaining 0",
     // Poll
     PollHelloFirst: "Hello: none since link up",
     PollHello: "Hello: our interval passed",

@@ -254,13 +254,13 @@ impl Server {
             self.rules.note(Rule::CsusEmpty);
             return None;
         }
-        let answers = records.iter().map(|asked| self.solicited(asked)).collect();
+        let answers = records.iter().map(|asked| self.solicited(p, asked)).collect();
         Some(wire::write(&self.to_peer(p, Body::CsuRequest(answers))))
     }
 
     /// Hop count 16; absent or held with a smaller number: N set, the asked
-    /// number, hop count 1.
-    fn solicited(&mut self, asked: &Record) -> Record {
+    /// number, hop count 1. With N clear it is a put (02, L2).
+    fn solicited(&mut self, p: usize, asked: &Record) -> Record {
         let nothing = Record { hops: 1, null: true, payload: Payload::EMPTY, ..*asked };
         let Some(r) = self.find(&asked.key, asked.originator) else {
             self.rules.note(Rule::CsusAbsent);
@@ -271,7 +271,22 @@ impl Server {
             return nothing;
         }
         self.rules.note(Rule::CsusHeld);
+        self.put_sent(r, p);
         let payload = self.row(r).payload;
         Record { hops: HOPS, payload, ..self.summary(r) }
+    }
+
+    /// 02, L2: every record with N clear that is sent for a CSUS is a put for
+    /// that slot, if its remaining hops are 1 or more.
+    fn put_sent(&mut self, r: usize, p: usize) {
+        let row = *self.row(r);
+        if row.remaining == 0 {
+            self.rules.note(Rule::SentNoHops);
+        } else if row.waits[p] {
+            self.rules.note(Rule::PutSentAgain);
+        } else if row.number == CsaNumber::PURGED {
+            self.rules.note(Rule::PutSentPurged);
+        }
+        self.put(r, p, Rule::PutSent, Rule::PutSent);
     }
 }

@@ -1,6 +1,6 @@
-//! The history of 01 'Updates' beside the server: entries held, and puts and
-//! takes, from each event's arguments and code; and of 02, L1, the update
-//! requests written at polls. Only the slots' states are the server's.
+//! The history of 01 'Updates' and 02, L2, beside the server: entries held,
+//! and puts and takes, from each event's arguments and code; and of 02, L1, the
+//! update requests written at polls. Only the slots' states are the server's.
 
 use reference::answer::Code;
 use reference::generate::{kinds::KINDS, list};
@@ -81,6 +81,18 @@ impl History {
                     let name = (record.key.part().to_vec(), record.originator);
                     match self.held.get_mut(&name) {
                         Some(held) if held.number == record.number.0 => held.waits[p] = false,
+                        _ => {}
+                    }
+                }
+            }
+            Body::Csus(records) => {
+                for record in &records {
+                    let name = (record.key.part().to_vec(), record.originator);
+                    match self.held.get_mut(&name) {
+                        // Sent with N clear: a put (02, L2).
+                        Some(held) if held.number >= record.number.0 && held.remaining >= 1 => {
+                            held.waits[p] = true;
+                        }
                         _ => {}
                     }
                 }

@@ -1,9 +1,11 @@
 //! `record FOLDER` writes the recorded lists: each as NAME.bin with the lines
 //! of the replay program (NAME.txt) and those of `--octets` (NAME.octets),
-//! the listing of 01 as listing.bin, and the table COVERAGE.md.
+//! those written by hand as listing.bin and solicited.bin, and the table
+//! COVERAGE.md.
 
 use reference::generate::list;
-use reference::replay::{self, Event, Printed, STATES};
+use reference::lists;
+use reference::replay::{self, Printed, STATES};
 use reference::rule::Rule;
 use std::fmt::Write;
 use std::{fs, io, path::Path};
@@ -58,25 +60,11 @@ fn recorded() -> Vec<(String, Recorded)> {
         let file = list(seed, count, kind).expect("a known kind");
         all.push((format!("{kind}-{number}"), Recorded::new(kind, file)));
     }
-    all.push(("listing".to_string(), listing()));
+    for (name, events) in [("listing", lists::listing()), ("solicited", lists::solicited())] {
+        let file = events.iter().flat_map(|event| event.write()).collect();
+        all.push((name.to_string(), Recorded::new(name, file)));
+    }
     all
-}
-
-/// The listing of 01.
-fn listing() -> Recorded {
-    let mut payload = [0; 17];
-    payload[0] = b'A';
-    payload[16] = b'x';
-    let events = [
-        Event::new(replay::SETTINGS, 0, 0, 0, &[10, 0, 0, 2, 0, 2, 0, 7, 0, 10, 0, 3]),
-        Event::new(replay::ADD_PEER, 0, 0, 0, &[10, 0, 0, 1]),
-        Event::new(replay::UP, 0, 0, 0, &[]),
-        Event::new(replay::POLL, 0, 0, 0, &[]),
-        Event::new(replay::SET, 1, 1, 0, &payload),
-        Event::new(replay::POLL, 0, 0, 0, &[]),
-        Event::new(replay::WITHDRAW, 1, 0, 0, b"B"),
-    ];
-    Recorded::new("listing", events.iter().flat_map(|event| event.write()).collect())
 }
 
 /// The first few lists that take it, and how many more.

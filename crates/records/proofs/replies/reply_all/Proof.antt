@@ -1,11 +1,11 @@
 -- What the records from `at` on leave is what all leave: the walk's step takes the first of them, and the last has none behind it.
-use Rattle.records.proofs.StepLaws.{replies-end, replies-then}
+use Rattle.records.proofs.StepLaws.{each-end, each-then}
 use Rattle.records.proofs.WalkLaws.{cursor, Walking, walk-start, walk-fits, walk-step, walk-on, walk-end}
 use Rattle.records.specs.Walks.{csaAt}
 use Rattle.wire.specs.Views.{recordsOf}
 use Rattle.memory.specs.Entries.{rowsAs}
 use Rattle.memory.specs.Memory.{memoryOf}
-use Rattle.rules.specs.Updates.{allReplied}
+use Rattle.rules.specs.Updates.{replied, allReplied}
 use mathlib.Core.List.{List}
 use mathlib.Core.Path.{_≡_, refl, _∙_}
 use Prim.Native.Nat.{ℕ, _+_, _-_}
@@ -53,7 +53,7 @@ loop-again c =
       (
         walk-on p (l .at) (l .left) w some (z .result) (z .ensures),
         λ u h. l .inv .1 .1 u
-            (replies-then (a .k) (csaAt p (l .at)) (l .memory) (q .last .0) (q .ensures) (recordsOf p (cursor (l .at) (l .left)))
+            (each-then (replied (a .k)) (csaAt p (l .at)) (l .memory) (q .last .0) (q .ensures) (recordsOf p (cursor (l .at) (l .left)))
             (recordsOf p (cursor (l .at + z .result) (l .left - 1))) (walk-step p (l .at) (l .left) w some (z .result) (z .ensures)) u h),
       ),
     )
@@ -63,7 +63,7 @@ same-length c = c .before .loop .inv .0
 
 returns : tie.Need-returns Inv-loop μ-loop
 returns c = let a = c .before .before .before .before .args in let p = a .p .now in let l =
-    c .before .loop in l .inv .1 .1 (l .memory) (replies-end (a .k) (l .memory) (recordsOf p (cursor (l .at) (l .left)))
+    c .before .loop in l .inv .1 .1 (l .memory) (each-end (replied (a .k)) (l .memory) (recordsOf p (cursor (l .at) (l .left)))
     (walk-end p (l .at) (l .left) (c .loop-test .left)))
 
 pub reply-all-spec : {M : Type 1} → statement M

@@ -1,4 +1,5 @@
-use Rattle.records.proofs.StepLaws.{replies-one}
+use Rattle.records.proofs.StepLaws.{each-one}
+use Rattle.rules.specs.Updates.{replied}
 use Rattle.records.proofs.WalkLaws.{named, named-fits}
 use Rattle.records.specs.Walks.{csaAt}
 use borrow.Author.Needs.{needs}
@@ -21,7 +22,7 @@ returns c =
     let x = at-name .name in
     let y = at-number .number in
     let r = at-reply-record .reply-record in
-    replies-one (a .k) v (a .memory .now) (r .last .0) (x .result .now) (y .result)
+    each-one (replied (a .k)) v (a .memory .now) (r .last .0) (x .result .now) (y .result)
     (named v (x .result .now) (y .result) (start .pre .1 .1 .1) (x .ensures) (y .ensures)) (r .ensures .0)
 
 pub reply-one-spec : {M : Type 1} → statement M

@@ -1,96 +1,73 @@
--- The name gives the entry's row, and by that row or its absence the answer is the rule's.
-use Rattle.records.proofs.SolicitedLaws.{solicited-held, solicited-null}
-use Rattle.records.proofs.PutLaws.{puts-as}
+-- The name gives the entry's row: by it the answer is the rule's, and it waits as the rule says.
+use Rattle.records.proofs.StepLaws.{each-one}
 use Rattle.records.proofs.WalkLaws.{named, named-fits, named-found}
 use Rattle.records.specs.Walks.{csaAt}
-use Rattle.memory.proofs.RowInsert.{found-below}
-use Rattle.rules.specs.Requests.{entryOf}
+use Rattle.memory.proofs.EntryLaws.{found-some}
+use Rattle.memory.specs.Memory.{entryNamed}
+use Rattle.rules.specs.Updates.{answerWaits}
 use Rattle.rules.specs.Server.{holds}
-use Rattle.protocol.specs.Messages.{CsaRecord}
-use mathlib.Core.List.{[], _∷_}
-use mathlib.Core.Path.{sym, ap, _∙_}
 use borrow.Author.Needs.{needs}
 use Rattle.records.proofs.solicited.solicit_one.Statement.{statement}
 use Rattle.records.proofs.solicited.solicit_one.Tie as tie
 
 find-requires : tie.Need-find-requires
-find-requires c κs = let a = c .before .before .before .before .before .args in let q = c .before .before .before .before .before .pre in let v =
-    csaAt (a .p .now) (a .r) in let x = c .before .name in let y =
-    c .number in (q .0, named-fits v (x .result .now) (y .result) (named v (x .result .now) (y .result) (q .1 .0 .1) (x .ensures) (y .ensures)) .0)
-
-solicit-row-requires : tie.Need-solicit-row-requires
-solicit-row-requires c κs =
-    let at-i = c .before .before in
-    let at-find = at-i .before .before in
-    let at-number = at-find .before in
+find-requires c κs =
+    let at-number = c .before in
     let at-name = at-number .before in
     let start = at-name .before .before .before .before in
     let a = start .args in
     let q = start .pre in
+    let x = at-name .name in
+    let y = at-number .number in
     let v = csaAt (a .p .now) (a .r) in
+    (q .0 .0, named-fits v (x .result .now) (y .result) (named v (x .result .now) (y .result) (q .1 .0 .1) (x .ensures) (y .ensures)) .0)
+
+solicit-found-requires : tie.Need-solicit-found-requires
+solicit-found-requires c κs =
+    let at-find = c .before .before in
+    let at-number = at-find .before .before in
+    let at-name = at-number .before in
+    let start = at-name .before .before .before .before in
+    let a = start .args in
+    let q = start .pre in
     let x = at-name .name in
     let y = at-number .number in
     let f = at-find .find in
-    let i = at-i .i .given in
+    let v = csaAt (a .p .now) (a .r) in
     let n = named v (x .result .now) (y .result) (q .1 .0 .1) (x .ensures) (y .ensures) in (
-      (
-        q .0,
-        found-below (holds (entryOf v)) (a .memory .now) (i .0 .0) (sym
-            (named-found v (x .result .now) (y .result) n (a .memory .now) (f .result) (f .ensures)) ∙ i .1),
-      ),
+      (q .0 .0, found-some (holds (entryNamed (x .result .now))) (a .memory .now) (f .result) (f .ensures)),
       (named-fits v (x .result .now) (y .result) n, q .1 .1),
     )
 
-put-null-requires : tie.Need-put-null-requires
-put-null-requires c κs =
-    let at-number = c .before .before .before .before in
-    let at-name = at-number .before in
+answer-record-requires : tie.Need-answer-record-requires
+answer-record-requires c κs =
+    let at-find = c .before .before .before .before .before .before in
+    let at-name = at-find .before .before .before in
     let start = at-name .before .before .before .before in
-    let a = start .args in
-    let q = start .pre in
-    let v = csaAt (a .p .now) (a .r) in
-    let x = at-name .name in
-    let y = at-number .number in
-    (named-fits v (x .result .now) (y .result) (named v (x .result .now) (y .result) (q .1 .0 .1) (x .ensures) (y .ensures)), q .1 .1)
+    let f = at-find .find in
+    (start .pre .0, found-some (holds (entryNamed (at-name .name .result .now))) (start .args .memory .now) (f .result) (f .ensures))
 
 returns : tie.Need-returns
 returns c =
-    let at-solicit-row = c .before .before in
-    let at-i = at-solicit-row .before .before .before in
-    let at-find = at-i .before .before in
-    let at-number = at-find .before in
+    let at-answer = c .before .before in
+    let at-solicit = at-answer .before .before .before .before in
+    let at-find = at-solicit .before .before .before in
+    let at-number = at-find .before .before in
     let at-name = at-number .before in
     let start = at-name .before .before .before .before in
     let a = start .args in
-    let q = at-solicit-row .solicit-row in
-    let v = csaAt (a .p .now) (a .r) in
     let x = at-name .name in
     let y = at-number .number in
     let f = at-find .find in
-    let i = at-i .i .given in
-    let n = named v (x .result .now) (y .result) (start .pre .1 .0 .1) (x .ensures) (y .ensures) in
-    puts-as 64 (a .at) (a .out .now) (q .last .1 .1 .1 .1 .0) (q .result)
-    (ap (λ (r : CsaRecord). r ∷ []) (solicited-held (a .memory .now) v (i .0 .0)
-    (sym (named-found v (x .result .now) (y .result) n (a .memory .now) (f .result) (f .ensures)) ∙ i .1))) (q .ensures v n)
-
-returns-2 : tie.Need-returns-2
-returns-2 c =
-    let at-put-null = c .before .before in
-    let at-test = at-put-null .before .before in
-    let at-find = at-test .before .before in
-    let at-number = at-find .before in
-    let at-name = at-number .before in
-    let start = at-name .before .before .before .before in
-    let a = start .args in
-    let q = at-put-null .put-null in
+    let w = at-answer .answer-record in
     let v = csaAt (a .p .now) (a .r) in
-    let x = at-name .name in
-    let y = at-number .number in
-    let f = at-find .find in
     let n = named v (x .result .now) (y .result) (start .pre .1 .0 .1) (x .ensures) (y .ensures) in
-    puts-as 64 (a .at) (a .out .now) (q .last .0) (q .result) (ap (λ (r : CsaRecord). r ∷ [])
-    (solicited-null (a .memory .now) v (sym (named-found v (x .result .now) (y .result) n (a .memory .now) (f .result) (f .ensures))
-    ∙ at-test .enum-told .given .1))) (q .ensures v n)
+    record {
+      answer = at-solicit .solicit-found .ensures v n (named-found v (x .result .now) (y .result) n (a .memory .now) (f .result) (f .ensures));
+      waits =
+          each-one (answerWaits (a .k)) v (a .memory .now) (w .last .0) (x .result .now) (y .result) n
+          (w .ensures .0 (entryNamed (x .result .now)) (f .ensures));
+    }
 
 pub solicit-one-spec : {M : Type 1} → statement M
 solicit-one-spec =
@@ -99,11 +76,8 @@ solicit-one-spec =
     (λ c κs. search needs)
     (λ c κs. search needs)
     find-requires
+    solicit-found-requires
+    answer-record-requires
     (λ c. search needs)
-    solicit-row-requires
     (λ c. search needs)
-    put-null-requires
-    (λ c. search needs)
-    returns
-    (λ c. search needs)
-    returns-2)
+    returns)
