@@ -5,11 +5,8 @@ use mathlib.Core.Path.{_≡_, refl, sym, ap, _∙_}
 use mathlib.Core.Bool.{Bool, true, false}
 use mathlib.Core.List.{List, [], _∷_, _++_, append-nil, append-assoc}
 use native.Mathlib.Omega.{arith}
-use lib.Dec.{ltb}
 use lib.ListN.{length, length-append}
-use Rattle.laws.specs.Choice.{pick}
-use Rattle.laws.specs.Tables.{on, change}
-use Rattle.laws.proofs.Bools.{pick-of}
+use Rattle.laws.specs.Tables.{change}
 use Rattle.laws.proofs.Cells.{found-same}
 use Rattle.protocol.specs.Fields.{field2}
 use Rattle.protocol.specs.Messages.{CsaRecord}
@@ -54,9 +51,7 @@ module _ (s : List ℕ) (v : CsaRecord) where
 -- ---- a row that waits is answered as it was
 same-answer : (k : ℕ) (n : CsaNumber) (r : CsaRecord) (x : Row) → solicitedOf r (answerWaits k n x) ≡ solicitedOf r x
 same-answer k n r free = refl
-same-answer k n r (used e v m) =
-    pick-of (λ (y : Row). solicitedOf r y ≡ solicitedOf r (used e v m)) (newer n (v .number)) (used e v m)
-    (used e v (pick (ltb 0 (v .remaining)) (on k true m) m)) refl refl
+same-answer k n r (used e v m) = refl
 
 solicited-same : (k : ℕ) (w : CsaRecord) (rows : List Row) (v : CsaRecord)
     → solicited (change (holds (entryOf w)) (answerWaits k (w .number)) rows) v ≡ solicited rows v

@@ -6,30 +6,29 @@ use mathlib.Core.Path.{_≡_, refl, sym, ap, _∙_}
 use mathlib.Core.Bool.{Bool, true, false, not, _&&_, _||_, false≢true}
 use mathlib.Core.List.{List, [], _∷_}
 use mathlib.Core.Logic.{_⊎_, inl, inr}
-use lib.Dec.{eqb, ltb}
 use lib.ListN.{getD, List·getD-map}
 use lib.ListN as lists
 use Rattle.laws.specs.Choice.{pick}
-use Rattle.laws.specs.Tables.{on, change}
-use Rattle.laws.proofs.Bools.{or-false, or-mono, pick-of}
+use Rattle.laws.specs.Tables.{change}
+use Rattle.laws.proofs.Bools.{or-false, or-mono}
 use Rattle.laws.proofs.Cells.{set-here, each-change}
 use Rattle.protocol.specs.declared.Alignment.the-variants.{Down}
 use Rattle.protocol.specs.declared.CsaNumber.{CsaNumber}
 use Rattle.protocol.specs.Sizes.{idLength}
-use Rattle.protocol.specs.Numbers.{newer}
 use Rattle.protocol.specs.Messages.{CsaRecord, Body, ca, csuRequest, csuReply, csus, hello}
 use Rattle.protocol.specs.Reading.{Reading, refused, malformed, message, readPacket}
 use Rattle.rules.specs.Server.{Settings, Row, free, used, holds, rowAt, Slot, freshSlot, Server}
 use Rattle.rules.specs.Links.{enters}
 use Rattle.rules.specs.Rows.{isPurged, anySlot, toFree, sweptRow, swept, sweptIf, clearedIf}
 use Rattle.rules.specs.Requests.{entryOf}
-use Rattle.rules.specs.Updates.{waitsAgain, answerWaits, allAnswersWait}
+use Rattle.rules.specs.Updates.{answerWaits, allAnswersWait}
 use Rattle.rules.specs.Packets.{rowsOn}
 use Rattle.rules.specs.Events.{Event, addPeer, linkUp, linkDown, packet, poll, set, withdraw, purge, codeOf, counts, Place, inSlot, nowhere}
 use Rattle.rules.specs.Events.{placeOf, alignmentAt, liveIn, peerSlot, slotsAfter, readRows, rowsChanged, emptiesIn, entersAt, cleared, bodyChanges}
 use Rattle.rules.specs.Events.{readChanges, changesRows, acted}
 use Rattle.rules.proofs.Relation.{Inv}
 use Rattle.rules.proofs.CodeTold.{not-in-use}
+use Rattle.rules.proofs.SolicitLaws.{still-waits}
 
 -- ---- the sweep leaves none to free, and nothing to do for another
 not-free : (r : Row) (b : Bool) → toFree r ≡ b → toFree (pick b free r) ≡ false
@@ -57,15 +56,9 @@ freed-more false a b h e = refl
 abbrev Freed : Row → Row → Type 0
 Freed x y = toFree x ≡ false → toFree y ≡ false
 
-on-more : (k : ℕ) (m : ℕ → Bool) (j : ℕ) → m j ≡ true → on k true m j ≡ true
-on-more k m j e = pick-of (λ b. b ≡ true) (eqb j k) true (m j) refl e
-
 answer-freed : (k : ℕ) (n : CsaNumber) (r : Row) → Freed r (answerWaits k n r)
 answer-freed k n free = λ h. h
-answer-freed k n (used e v m) =
-    pick-of (Freed (used e v m)) (newer n (v .number)) (used e v m) (waitsAgain k (used e v m)) (λ h. h)
-    (pick-of (λ (w : ℕ → Bool). Freed (used e v m) (used e v w)) (ltb 0 (v .remaining)) (on k true m) m
-    (freed-more (isPurged (v .number)) (anySlot m) (anySlot (on k true m)) (any-more m (on k true m) (on-more k m))) (λ h. h))
+answer-freed k n (used e v m) = freed-more (isPurged (v .number)) (anySlot m) _ (any-more m _ (λ j. still-waits k j n (used e v m)))
 
 answers-freed : (k : ℕ) (rs : List CsaRecord) (rows : List Row) (i : ℕ) → Freed (rowAt rows i) (rowAt (allAnswersWait k rs rows) i)
 answers-freed k [] rows i h = h

@@ -73,8 +73,7 @@ alike-replied k n (used e v m) =
 
 pub alike-answerWaits : (k : ℕ) (n : CsaNumber) (r : Row) → Alike r (answerWaits k n r)
 alike-answerWaits k n free = alike-free
-alike-answerWaits k n (used e v m) =
-    pick-of (Alike (used e v m)) (newer n (v .number)) (used e v m) (waitsAgain k (used e v m)) (alike-used e v v m m) (alike-used e v v m _)
+alike-answerWaits k n (used e v m) = alike-used e v _ m _
 
 module _ (live : ℕ → Bool) where
   pub alike-renewed : (k : ℕ) (c : CsaRecord) (r : Row) → Alike r (renewed live k c r)

@@ -8,6 +8,7 @@ pub mod SeenSlots
 pub mod SlotSim
 pub mod Others
 pub mod CsaOrder
+pub mod SolicitLaws
 pub mod RowGrows
 pub mod RowsKeep
 pub mod SlotsKeep
@@ -43,6 +44,5 @@ pub mod Rounds
 pub mod Drained
 pub mod CaseEvents
 pub mod DrainCase
-pub mod SolicitLaws
 pub mod SolicitCase
 pub mod RoundThere

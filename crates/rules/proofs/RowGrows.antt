@@ -4,6 +4,7 @@ use Prim.Native.Nat.{ℕ, _-_, _≤_}
 use mathlib.Core.Path.{_≡_, refl, sym, _∙_}
 use mathlib.Core.Bool.{Bool, true, false, not, _&&_, false≢true}
 use mathlib.Core.List.{List, map}
+use mathlib.Core.Logic.{⊎-elim}
 use native.Mathlib.Decide.{ℕ-discrete}
 use native.Mathlib.Omega.{arith}
 use lib.Dec.{eqb, ltb}
@@ -25,6 +26,7 @@ use Rattle.rules.specs.Updates.{changedRow, purgedRow, valueOf, renewed,
 use Rattle.rules.proofs.Relation.{Alive, SizedValue, Sized, RowsInv}
 use Rattle.rules.proofs.CsaOrder.{stepped-good}
 use Rattle.rules.proofs.Entries.{entry-true}
+use Rattle.rules.proofs.SolicitLaws.{told-waits}
 
 -- the row's number is smaller
 abbrev pub Older : CsaNumber → Row → Type 0
@@ -97,9 +99,12 @@ module _ (live : ℕ → Bool) where
 
   pub good-answerWaits : (k : ℕ) → live k ≡ true → (n : CsaNumber) (x : Row) → Good live x (answerWaits k n x)
   good-answerWaits k l n free = good-refl free
-  good-answerWaits k l n (used e v m) =
-      let x : Row = used e v m in
-      pick-of (Good live x) (newer n (v .number)) x (waitsAgain k x) (good-refl x) (good-waitsAgain k l x)
+  good-answerWaits k l n (used e v m) = record {
+    keep = keep-refl (used e v m);
+    same = λ f. refl;
+    alive = λ h j q. ⊎-elim (h j) (λ w. rw (eqb-true j k (w .0)) l) (told-waits k j n (used e v m) q);
+    sized = λ h. h;
+  }
 
   -- ---- values
   pub good-renewed : (k : ℕ) (r : CsaRecord) → SizedValue (valueOf r) → (x : Row) → Older (r .number) x → Good live x (renewed live k r x)

@@ -78,15 +78,15 @@ pub answered-of : (k : ℕ) (r : CsaRecord) (x : Known) → replied k (r .number
 answered-of k r x =
     answered-by k (x .entry) (nowHeld x) (x .acts) (newer (r .number) (nowHeld x .number)) (newer (nowHeld x .number) (r .number))
 
-sent-for-by : (k : ℕ) (e : Entry) (v : Value) (acts : ℕ → List Act) (a b : Bool)
-    → pick a (used e v (waitsAt acts)) (used e v (pick b (on k true (waitsAt acts)) (waitsAt acts)))
-    ≡ used e v (waitsAt (pick a acts (pick b (act k put acts) acts)))
-sent-for-by k e v acts true b = refl
-sent-for-by k e v acts false true = ap (used e v) (sym (put-waits k acts))
-sent-for-by k e v acts false false = refl
+sent-for-by : (k : ℕ) (acts : ℕ → List Act) (a b : Bool) → pick a (waitsAt acts) (pick b (on k true (waitsAt acts)) (waitsAt acts))
+    ≡ waitsAt (pick a acts (pick b (act k put acts) acts))
+sent-for-by k acts true b = refl
+sent-for-by k acts false true = sym (put-waits k acts)
+sent-for-by k acts false false = refl
 
 pub sent-for-of : (k : ℕ) (r : CsaRecord) (x : Known) → answerWaits k (r .number) (rowOf x) ≡ rowOf (sentFor k r x)
-sent-for-of k r x = sent-for-by k (x .entry) (nowHeld x) (x .acts) (newer (r .number) (nowHeld x .number)) (ltb 0 (nowHeld x .remaining))
+sent-for-of k r x =
+    ap (used (x .entry) (nowHeld x)) (sent-for-by k (x .acts) (newer (r .number) (nowHeld x .number)) (ltb 0 (nowHeld x .remaining)))
 
 module _ (live : ℕ → Bool) where
   pub opened-of : (k : ℕ) (r : CsaRecord) → rowFor live k r ≡ rowOf (opened live k r)

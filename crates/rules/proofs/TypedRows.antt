@@ -4,6 +4,7 @@ use Prim.Native.Nat.{ℕ, zero, suc, _+_, _-_, _≤_, _<_}
 use mathlib.Core.Path.{_≡_, refl, sym, ap, _∙_, subst}
 use mathlib.Core.Bool.{Bool, true, false, not, _&&_, false≢true}
 use mathlib.Core.List.{List, [], _∷_}
+use mathlib.Core.Logic.{⊎-elim}
 use native.Mathlib.Omega.{arith}
 use lib.Dec.{eqb, ltb}
 use lib.ListN.{length}
@@ -29,6 +30,7 @@ use Rattle.rules.specs.Updates.{allReplied, answerWaits, allAnswersWait}
 use Rattle.rules.specs.Refusals.{rowSpent}
 use Rattle.laws.proofs.Each.{all-map, all-change}
 use Rattle.laws.proofs.Bools.{pick-of}
+use Rattle.rules.proofs.SolicitLaws.{told-waits}
 use Rattle.rules.proofs.Typed.{GoodEntry, GoodNumber, GoodRow, TypedRow}
 
 -- ---- CSA numbers
@@ -191,8 +193,11 @@ replied-typed k n (used e v m) g =
 
 answerWaits-typed : (k : ℕ) (n : CsaNumber) (r : Row) → TypedRow r → TypedRow (answerWaits k n r)
 answerWaits-typed k n free g = tt
-answerWaits-typed k n (used e v m) g =
-    pick-of TypedRow (newer n (v .number)) (used e v m) (waitsAgain k (used e v m)) g (waitsAgain-typed k (used e v m) g)
+answerWaits-typed k n (used e v m) g = record {
+  entry = g .entry;
+  value = g .value;
+  hops-left = λ j h. ⊎-elim (g .hops-left j) (λ w. ltb-true 0 (v .remaining) (w .1)) (told-waits k j n (used e v m) h);
+}
 
 -- ---- all rows
 abbrev pub TypedRows : List Row → Type 0

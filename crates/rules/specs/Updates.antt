@@ -174,7 +174,7 @@ allSolicited rows rs = map (solicited rows) rs
 -- document 02, L2: 'Every record with N clear sent for a CSUS becomes a put for that slot, if its remaining hops are 1 or more'
 abbrev pub answerWaits : ℕ → CsaNumber → Row → Row
 answerWaits k n free = free
-answerWaits k n (used e v m) = pick (newer n (v .number)) (used e v m) (waitsAgain k (used e v m))
+answerWaits k n (used e v m) = used e v (pick (newer n (v .number)) m (pick (ltb 0 (v .remaining)) (on k true m) m))
 
 abbrev pub allAnswersWait : ℕ → List CsaRecord → List Row → List Row
 allAnswersWait k rs rows = eachRow (answerWaits k) rs rows
