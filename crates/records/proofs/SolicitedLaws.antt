@@ -111,7 +111,8 @@ module _ (k : ℕ) (s₀ p : List ℕ) (c : Cursor) (out₀ : List ℕ) where
           let f = x .few in
           let near = soliciting-room in
           let l = x .long in
-          let rest : List CsaRecord = allSolicited (rowsIn s₀) (recordsOf p (cursor (at + size) (left - 1))) in
+          let left-over : List CsaRecord = recordsOf p (cursor (at + size) (left - 1)) in
+          let rest : List CsaRecord = allSolicited (rowsIn s₀) left-over in
           let more : length (x .done ++ (v ∷ [])) ≡ length (x .done) + 1 = length-append (x .done) (v ∷ []) in
           let step = walk-step p at left (x .walks) some size e in
           record {
@@ -127,7 +128,7 @@ module _ (k : ℕ) (s₀ p : List ℕ) (c : Cursor) (out₀ : List ℕ) where
             same = λ y.
                 ap (λ (rows : List Row). solicited rows y) (each-rows (answerWaits k) w s s′ (one .waits)) ∙ solicited-same k w (rowsIn s) y ∙ x .same y;
             waits = λ u h.
-                x .waits u (each-then (answerWaits k) w s s′ (one .waits) (recordsOf p (cursor at left)) (recordsOf p (cursor (at + size) (left - 1))) step u h);
+                x .waits u (each-then (answerWaits k) w s s′ (one .waits) (recordsOf p (cursor at left)) left-over step u h);
             puts = puts-then 64 28 out₀ (x .done) (v ∷ []) out out′ to n (omega arith) (x .puts)
                 (puts-as 64 to out out′ n (ap (λ (y : CsaRecord). y ∷ []) (x .same w)) (one .answer));
           }

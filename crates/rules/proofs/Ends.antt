@@ -67,14 +67,16 @@ answers-freed k (r ∷ rs) rows i h =
     (each-change free (holds (entryOf r)) (answerWaits k (r .number)) Freed (λ x z. z) rows (λ j _. answer-freed k (r .number) (rowAt rows j)) i h)
 
 -- ---- an event that changes no row so that it is to be freed
-body-freed : (b : Body) (live : ℕ → Bool) (k : ℕ) (rows : List Row) → bodyChanges b ≡ false → (i : ℕ) → Freed (rowAt rows i) (rowAt (rowsOn b live k rows) i)
+body-freed : (b : Body) (live : ℕ → Bool) (k : ℕ) (rows : List Row) → bodyChanges b ≡ false → (i : ℕ)
+    → Freed (rowAt rows i) (rowAt (rowsOn b live k rows) i)
 body-freed (hello i f ids) live k rows h j z = z
 body-freed (ca n f rs) live k rows h j z = z
 body-freed (csuRequest rs) live k rows h j z = absurd (false≢true (sym h))
 body-freed (csuReply rs) live k rows h j z = absurd (false≢true (sym h))
 body-freed (csus rs) live k rows h j z = answers-freed k rs rows j z
 
-read-freed : (r : Reading) (live : ℕ → Bool) (k : ℕ) (rows : List Row) → readChanges r ≡ false → (i : ℕ) → Freed (rowAt rows i) (rowAt (readRows r live k rows) i)
+read-freed : (r : Reading) (live : ℕ → Bool) (k : ℕ) (rows : List Row) → readChanges r ≡ false → (i : ℕ)
+    → Freed (rowAt rows i) (rowAt (readRows r live k rows) i)
 read-freed (refused c) live k rows h i z = z
 read-freed (malformed at) live k rows h i z = z
 read-freed (message m) live k rows h i z = body-freed (m .body) live k rows h i z

@@ -27,8 +27,8 @@ use Rattle.rules.specs.Server.{Entry, Value, Row, free, used, isFree, is
 use Rattle.rules.specs.Rows.{entryRow, isPurged, unmarked, filled}
 use Rattle.rules.specs.Requests.{entryOf}
 use Rattle.rules.specs.Updates.{changedRow, newRow, setRows, withdrawRows, purgedRow, purgeRows, null as noRecord, purgeAbsent, full, stored, equal}
-use Rattle.rules.specs.Updates.{older, ruleAt, updateRule, valueOf, renewed, waitsAgain, rowsBy, Updated, byRule, allUpdated, eachRow, replied, allReplied}
-use Rattle.rules.specs.Updates.{answerWaits, allAnswersWait}
+use Rattle.rules.specs.Updates.{older, ruleAt, updateRule, valueOf, renewed, waitsAgain, rowsBy, Updated, byRule, allUpdated, eachRow}
+use Rattle.rules.specs.Updates.{replied, allReplied, answerWaits, allAnswersWait}
 use Rattle.rules.proofs.Relation.{SizedEntry, SizedValue, RowsInv}
 use Rattle.rules.proofs.Entries.{row-there}
 use Rattle.rules.proofs.RowGrows.{Older, Good, spread-live, good-unmarked, good-waitsAgain, good-replied, good-answerWaits, good-renewed, good-changed}

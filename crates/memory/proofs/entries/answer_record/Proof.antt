@@ -19,7 +19,8 @@ returns c =
     let start = at-found .before .before .before in
     let a = start .args in
     let i = at-found .found .given in
-    found-marked (a .found) (a .memory .now) (answerWaits (a .k) (a .number)) (i .0 .0) (at-answer-mark .answer-mark .last .0) (i .1) (at-answer-mark .answer-mark .ensures .0)
+    let m = at-answer-mark .answer-mark in
+    found-marked (a .found) (a .memory .now) (answerWaits (a .k) (a .number)) (i .0 .0) (m .last .0) (i .1) (m .ensures .0)
 
 returns-2 : tie.Need-returns-2
 returns-2 c =
