@@ -2,8 +2,8 @@
 //! of answers to a CSUS.
 
 use crate::replay::{self, Event};
-use crate::wire::Record;
-use crate::wire::{self, Body, Ca, CaNumber, CsaNumber, Flags, Hello, Id, Key, Message, Payload};
+use crate::wire::{self, Body, Ca, CaNumber, CsaNumber, Flags};
+use crate::wire::{Hello, Id, Key, Message, Payload, Record};
 
 const US: Id = [10, 0, 0, 2];
 const PEERS: [Id; 2] = [[10, 0, 0, 1], [10, 0, 0, 3]];
@@ -53,8 +53,8 @@ pub fn listing() -> Vec<Event> {
     ]
 }
 
-/// Both peers reach Aligned at time 1, ours the higher ID than that of slot 0
-/// and the lower than that of slot 1; each gets its Hello.
+/// Both slots reach Aligned at time 1: we are master in slot 0, slave in slot
+/// 1. Each peer gets its Hello.
 fn aligned() -> Vec<Event> {
     let hello = || Body::Hello(Hello { interval: 100, factor: 10, additional: vec![] });
     let ca = |number, m, i, o| {
@@ -75,14 +75,8 @@ fn aligned() -> Vec<Event> {
 }
 
 fn summary(key: u8, originator: Id, number: i32) -> Record {
-    Record {
-        hops: 1,
-        null: false,
-        number: CsaNumber(number),
-        key: Key::new(&[key]).expect("a key of one octet"),
-        originator,
-        payload: Payload::EMPTY,
-    }
+    let key = Key::new(&[key]).expect("a key of one octet");
+    Record::summary(key, originator, CsaNumber(number))
 }
 
 fn reply(slot: u8, time: u32, record: Record) -> Event {

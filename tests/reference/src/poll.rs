@@ -2,7 +2,7 @@
 
 use crate::rule::Rule;
 use crate::server::{Alignment, Role, Server, ROWS};
-use crate::wire::{self, Body, Ca, Flags, Payload, Record, MAX_RECORDS};
+use crate::wire::{self, Body, Ca, Flags, Record, MAX_RECORDS};
 
 const CA_SECONDS: u32 = 5;
 const LIST_SECONDS: u32 = 1;
@@ -97,15 +97,10 @@ impl Server {
         let slot = self.slot_mut(p);
         slot.csus_sent = Some(time);
         let count = slot.requests.len().min(MAX_RECORDS);
-        let asked = slot.requests[..count].iter().map(|request| Record {
-            hops: 1,
-            null: false,
-            number: request.number,
-            key: request.key,
-            originator: request.originator,
-            payload: Payload::EMPTY,
-        });
-        let asked = asked.collect();
+        let asked = slot.requests[..count]
+            .iter()
+            .map(|request| Record::summary(request.key, request.originator, request.number))
+            .collect();
         slot.requests.rotate_left(count);
         Some(wire::write(&self.to_peer(p, Body::Csus(asked))))
     }

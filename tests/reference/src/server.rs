@@ -3,7 +3,7 @@
 use crate::answer::{Answer, Code};
 use crate::rule::{Rule, RuleSet};
 pub use crate::state::*;
-use crate::wire::{self, Body, CsaNumber, Id, Key, Message, Payload, Record, HELLO, MAX_PACKET};
+use crate::wire::{self, Body, CsaNumber, Id, Key, Message, Record, HELLO, MAX_PACKET};
 
 #[derive(Clone, PartialEq, Eq, Debug)]
 pub struct Server {
@@ -254,14 +254,7 @@ impl Server {
     /// A row as a summary of ours: hop count 1.
     pub(crate) fn summary(&self, r: usize) -> Record {
         let row = self.row(r);
-        Record {
-            hops: 1,
-            null: false,
-            number: row.number,
-            key: row.key,
-            originator: row.originator,
-            payload: Payload::EMPTY,
-        }
+        Record::summary(row.key, row.originator, row.number)
     }
 }
 

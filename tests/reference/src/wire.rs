@@ -83,6 +83,13 @@ pub struct Record {
     pub payload: Payload,
 }
 
+impl Record {
+    /// Summaries of ours have hop count 1.
+    pub fn summary(key: Key, originator: Id, number: CsaNumber) -> Self {
+        Record { hops: 1, null: false, number, key, originator, payload: Payload::EMPTY }
+    }
+}
+
 /// CA flags from the top bit: M, I, O.
 #[derive(Clone, Copy, PartialEq, Eq, Debug)]
 pub struct Flags {

@@ -101,8 +101,7 @@ impl Craft<'_> {
 
     fn fresh_summary(&mut self) -> Record {
         let (key, number) = (self.fresh_key(), CsaNumber(self.random.between(0, 9) as i32));
-        let (hops, null, payload) = (1, false, Payload::EMPTY);
-        Record { hops, null, number, key, originator: STRANGER, payload }
+        Record::summary(key, STRANGER, number)
     }
 
     pub fn payload(&mut self) -> Payload {
@@ -147,10 +146,7 @@ impl Craft<'_> {
     pub fn asked(&mut self) -> Vec<Record> {
         let requests: Vec<_> = self.state().requests.iter().take(4).copied().collect();
         let make = |request: crate::server::Request| {
-            let (key, originator, number) = (request.key, request.originator, request.number);
-            let summary =
-                Record { hops: 1, null: false, number, key, originator, payload: Payload::EMPTY };
-            self.update_of(summary)
+            self.update_of(Record::summary(request.key, request.originator, request.number))
         };
         requests.into_iter().map(make).collect()
     }
@@ -159,15 +155,7 @@ impl Craft<'_> {
     pub fn waiting(&mut self) -> Vec<Record> {
         let slot = self.slot;
         let rows = self.server.rows.iter().flatten().filter(|row| row.waits[slot]).take(4);
-        let make = |row: &crate::server::Row| Record {
-            hops: 1,
-            null: false,
-            number: row.number,
-            key: row.key,
-            originator: row.originator,
-            payload: Payload::EMPTY,
-        };
-        rows.map(make).collect()
+        rows.map(|row| Record::summary(row.key, row.originator, row.number)).collect()
     }
 
     pub fn hello(&mut self, names_us: bool) -> Message {

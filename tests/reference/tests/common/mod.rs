@@ -93,14 +93,7 @@ pub fn ca(number: u32, flags: Flags, records: Vec<Record>) -> Body {
 }
 
 pub fn summary(key: &[u8], originator: Id, number: i32) -> Record {
-    Record {
-        hops: 1,
-        null: false,
-        number: CsaNumber(number),
-        key: Key::new(key).unwrap(),
-        originator,
-        payload: Payload::EMPTY,
-    }
+    Record::summary(Key::new(key).unwrap(), originator, CsaNumber(number))
 }
 
 pub fn update(key: &[u8], originator: Id, number: i32, hops: u16, payload: &[u8]) -> Record {
