@@ -1,17 +1,18 @@
 #!/usr/bin/env python3
 """Writes the vectors of the packet reader: crates/vectors/stdin and crates/vectors/stdout.
 
-The reader below is written from document 01, from request L6 of document 02 for the positions
-and from RFC 2334, appendix B, for the layouts. It shares no code and no definition with the
+The reader below is written from document 01, from requests L4 and L6 of document 02 for the
+checksum field and the positions, and from RFC 2334, appendix B, for the layouts. It shares no code and no definition with the
 crates. Run it by hand after a change here, and commit both files.
 
     python3 tests/vectors/make.py           write both files
     python3 tests/vectors/make.py --list    print each vector's number, name and first line
 
-stdin holds the entries one after another: kind (1 checksum, 2 packet), length (2 octets,
-big-endian), the octets. stdout holds what is to be printed for each of them:
+stdin holds the entries one after another: kind (1 checksum, 2 packet, 3 checksum field), length
+(2 octets, big-endian), the octets. stdout holds what is to be printed for each of them:
 
     checksum    sum XXXX checksum XXXX
+    field       field XXXX good 1 or 0
     packet      CODE                    refused with 5 to 9
                 10 POSITION             malformed
                 0 TYPE PROTOCOL GROUP SENDER RECEIVER, and lines indented by two spaces:
@@ -47,6 +48,22 @@ def ones_sum(octets):
         if total > 0xFFFF:
             total -= 0xFFFF
     return total
+
+
+def with_field(octets, field):
+    """The octets with these in the checksum field, as far as they reach there."""
+    return octets[:4] + two(field)[:len(octets[4:6])] + octets[6:]
+
+
+def field_of(octets):
+    """The checksum field; an octet beyond the end reads as 0."""
+    return int.from_bytes(octets[4:6].ljust(2, b"\0"), "big")
+
+
+def right_field(octets):
+    """L4: 'the field holds the checksum computed with the field 0, or that is 0 and the field 0xFFFF'."""
+    checksum = 0xFFFF - ones_sum(with_field(octets, 0))
+    return field_of(octets) == checksum or checksum == 0 and field_of(octets) == 0xFFFF
 
 
 class Fields:
@@ -254,6 +271,12 @@ def checksum(name, octets, expected_sum=None, expected_checksum=None):
     vectors.append((1, name, octets, ["sum %04x checksum %04x" % (total, 0xFFFF - total)]))
 
 
+def field(name, octets, expected):
+    assert right_field(octets) == expected, (name, octets.hex())
+    assert (ones_sum(octets) == 0xFFFF) == expected, (name, octets.hex())
+    vectors.append((3, name, octets, ["field %04x good %d" % (field_of(octets), expected)]))
+
+
 def packet(name, octets, expected=None):
     lines = read(octets)
     if expected == "0":
@@ -284,6 +307,42 @@ def checksums():
     marked = hello(sender=US, receiver=b"")
     checksum("the Hello of document 01, field 0", marked[:4] + b"\0\0" + marked[6:], None, 0xF0C2)
     checksum("the Hello of document 01, as sent", marked, 0xFFFF, 0x0000)
+
+
+def with_rest(octets, at):
+    """The octets with the word at a position chosen so that all but the checksum field sum to 0xFFFF."""
+    octets = with_field(octets[:at] + bytes(2) + octets[at + 2:], 0)
+    return octets[:at] + two(0xFFFF - ones_sum(octets)) + octets[at + 2:]
+
+
+def fields():
+    """L4, of any octets, not of packets alone: right fields and wrong ones, odd and even lengths."""
+    for length in (8, 9, 10, 11, 36, 37, 284):
+        for value, right in ((0, False), (0xFFFF, True), (1, False), (0xFFFE, False)):
+            if length < 40 or value in (0, 0xFFFF):
+                field("%d zeros, field %04x" % (length, value), with_field(bytes(length), value), right)
+    for length in (8, 9, 10, 11, 12, 13, 283):
+        octets = with_rest(bytes((i * 37 + length) % 256 for i in range(length)), 6)
+        for value, right in ((0, True), (0xFFFF, True), (1, False), (0xFFFE, False), (0xFF, False), (0xFF00, False)):
+            if length < 40 or right:
+                field("%d octets that sum to ffff, field %04x" % (length, value), with_field(octets, value), right)
+    for length in range(8, 41):
+        octets = bytes((i * 37 + length * 11) % 256 for i in range(length))
+        right = 0xFFFF - ones_sum(with_field(octets, 0))
+        field("%d octets" % length, with_field(octets, right), True)
+        for wrong in (right - 1, right + 1):
+            field("%d octets, field %04x for %04x" % (length, wrong, right), with_field(octets, wrong), False)
+    octets = bytes((i * 91 + 5) % 256 for i in range(13))
+    right = 0xFFFF - ones_sum(with_field(octets, 0))
+    for bit in range(16):
+        field("13 octets, bit %d of the field" % bit, with_field(octets, right ^ 1 << bit), False)
+    low = 0xFFFF - ones_sum(with_field(octets[:-1] + b"\0" + octets[-1:], 0))
+    field("13 octets, the last counted low", with_field(octets, low), False)
+    counted = 0xFFFF - ones_sum(with_field(octets, 0x1234))
+    field("13 octets, the field before counted too", with_field(octets, counted), False)
+    for octets, right in ((b"", False), (b"\xff\xff", True), (b"\xff\xfe", False), (bytes(4), False),
+                          (b"\0\0\0\xff\xff", True), (b"\0\0\0\0\xff", False), (b"\0\0\0\0\xff\xff", True)):
+        field("%d octets, %s" % (len(octets), octets.hex()), octets, right)
 
 
 KEY = bytes(range(0x61, 0x71))
@@ -374,14 +433,17 @@ def refused_packets():
         packet("start of extensions %d" % extensions, fixed(REQUEST, whole[8:], extensions=extensions), "9")
     packet("extensions before malformed", fixed(REQUEST, whole[8:-1], extensions=8), "9")
     # The group number that makes the sum of the rest 0xFFFF: both representations of zero are good.
-    for kind in (CA, REQUEST, HELLO):
-        at = {CA: 14, REQUEST: 10, HELLO: 18}[kind]
-        octets = SPECIMENS[kind]
-        rest = 0xFFFF - ones_sum(octets[:4] + b"\0\0" + octets[6:at] + b"\0\0" + octets[at + 2:])
-        octets = octets[:at] + two(rest) + octets[at + 2:]
-        for zero in (0, 0xFFFF):
-            packet("%s, checksum %04x for zero" % (NAMES[kind], zero), octets[:4] + two(zero) + octets[6:], "0")
-        packet("%s, checksum 0001 for zero" % NAMES[kind], octets[:4] + two(1) + octets[6:], "8")
+    for kind, at in ((CA, 14), (REQUEST, 10), (REPLY, 10), (SOLICIT, 10), (HELLO, 18)):
+        # The specimens of CA, CSU Reply and CSUS have an odd length, and so has the second CSU Request.
+        for octets in [SPECIMENS[kind]] + [request([record(payload=b"pq")])] * (kind == REQUEST):
+            octets = with_rest(octets, at)
+            name = "%s of %d" % (NAMES[kind], len(octets))
+            for zero in (0, 0xFFFF):
+                packet("%s, checksum %04x for zero" % (name, zero), with_field(octets, zero), "0")
+            for wrong in (1, 0xFFFE):
+                packet("%s, checksum %04x for zero" % (name, wrong), with_field(octets, wrong), "8")
+    for length in (8, 9, 36, 37):
+        packet("%d zeros" % length, bytes(length), "5")
     # An odd last octet counts as the high octet of a pair.
     odd = request([record(payload=b"pq")])
     assert len(odd) % 2 == 1
@@ -525,6 +587,7 @@ def changed_packets():
 
 def main():
     checksums()
+    fields()
     good_packets()
     refused_packets()
     malformed_heads()
@@ -538,6 +601,7 @@ def main():
     folder = pathlib.Path(__file__).resolve().parents[2] / "crates" / "vectors"
     stdin = b"".join(bytes([kind]) + two(len(octets)) + octets for kind, _, octets, _ in vectors)
     stdout = "".join(line + "\n" for _, _, _, lines in vectors for line in lines)
+    assert len(stdin) <= 65536, "the program reads no more"
     if sys.argv[1:] == ["--check"]:
         if (folder / "stdin").read_bytes() != stdin or (folder / "stdout").read_text() != stdout:
             sys.exit("crates/vectors is not what tests/vectors/make.py says")

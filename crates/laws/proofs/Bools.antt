@@ -49,6 +49,12 @@ pub is-true : (b : Bool) → (b ≡ false → ⊥) → b ≡ true
 is-true true n = refl
 is-true false n = absurd (n refl)
 
+-- each where the other
+pub same-answer : (a b : Bool) → (a ≡ true → b ≡ true) → (b ≡ true → a ≡ true) → a ≡ b
+same-answer true b f g = sym (f refl)
+same-answer false true f g = g refl
+same-answer false false f g = refl
+
 -- ---- the one picked
 -- what holds of both holds of it
 pub pick-of : {A : Type 0} (P : A → Type 0) (b : Bool) (x y : A) → P x → P y → P (pick b x y)

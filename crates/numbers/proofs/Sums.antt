@@ -1,6 +1,6 @@
 -- The sum by words of four octets, the low octet first, gives the ones' complement sum.
 -- Assumes nothing.
-use Prim.Native.Nat.{ℕ, zero, suc, _+_, _*_, _/_, _≤_, _<_}
+use Prim.Native.Nat.{ℕ, zero, suc, _+_, _*_, _≤_, _<_}
 use mathlib.Core.Path.{_≡_, refl, _∙_}
 use mathlib.Core.Bool.{true}
 use mathlib.Core.List.{List, [], _∷_}
@@ -11,6 +11,7 @@ use lib.Seq.{getD-drop, drop-drop}
 use Rattle.protocol.specs.Checksum.{total, fold, onesSum}
 use Rattle.protocol.specs.WellFormed.{Octets}
 use Rattle.protocol.proofs.PacketOctets.{Small, none, one, octets-small}
+use Rattle.protocol.proofs.Folds.{total-most, two-folds, then, folded2}
 use Rattle.numbers.specs.Words.{lowFirst, lowTotal}
 
 -- ---- the words one by one
@@ -43,64 +44,43 @@ low-end p at h = low-few (drop at p) (simp length-drop (omega arith)) ∙ simp (
 
 -- ---- the sums of the same octets, the high octet first and the low octet first
 -- 256 times the low sum exceeds the high sum by a multiple of 65535, and the low sum is 0 where the high sum is
-record Sums (high low count : ℕ) : Type 0 where
+record Sums (high low : ℕ) : Type 0 where
   pub times : ℕ
   pub same : low * 256 ≡ high + 65535 * times
   pub least : low ≤ 16777216 * high
-  pub most : high ≤ 65280 * count
 
-both-sums : {p : List ℕ} → Small p → Sums (total true p) (lowTotal p) (length p)
+both-sums : {p : List ℕ} → Small p → Sums (total true p) (lowTotal p)
 unfolding total lowTotal
-both-sums none = record { times = 0; same = omega arith; least = omega arith; most = omega arith }
-both-sums (one a ha none) = record { times = 0; same = omega arith; least = omega arith; most = omega arith }
-both-sums (one a ha (one b hb none)) = record { times = b; same = omega arith; least = omega arith; most = omega arith }
-both-sums (one a ha (one b hb (one c hc none))) =
-    record { times = b + 256 * c; same = omega arith; least = omega arith; most = omega arith }
+both-sums none = record { times = 0; same = omega arith; least = omega arith }
+both-sums (one a ha none) = record { times = 0; same = omega arith; least = omega arith }
+both-sums (one a ha (one b hb none)) = record { times = b; same = omega arith; least = omega arith }
+both-sums (one a ha (one b hb (one c hc none))) = record { times = b + 256 * c; same = omega arith; least = omega arith }
 both-sums (one a ha (one b hb (one c hc (one d hd s)))) =
     let r = both-sums s in
-    record { times = b + 256 * c + 65537 * d + r .times; same = omega arith; least = omega arith; most = omega arith }
+    record { times = b + 256 * c + 65537 * d + r .times; same = omega arith; least = omega arith }
 
 -- ---- folds
--- a number and what folds make of it: they differ by a multiple of 65535, and only 0 becomes 0
-record Folded (s r : ℕ) : Type 0 where
-  pub times : ℕ
-  pub same : s ≡ r + 65535 * times
-  pub more : 0 < s → 0 < r
-
-folded : (s : ℕ) → Folded s (fold s)
-folded s = record { times = s / 65536; same = omega arith; more = λ h. omega arith }
-
-then : {s r t : ℕ} → Folded s r → Folded r t → Folded s t
-then f g = record { times = f .times + g .times; same = omega (arith, f .same, g .same); more = λ h. g .more (f .more h) }
-
-folded2 : (s : ℕ) → Folded s (fold (fold s))
-folded2 s = then (folded s) (folded (fold s))
-
 -- two numbers from 1 to 65535 that differ by a multiple of 65535
 equal : (r t m n : ℕ) → 0 < r → r ≤ 65535 → 0 < t → t ≤ 65535 → r + 65535 * m ≡ t + 65535 * n → r ≡ t
 equal r t m n a b c d e = omega arith
-
-two-folds : (s : ℕ) → s < 4294967296 → fold (fold s) ≤ 65535
-two-folds s h = omega arith
 
 large-folds : (s : ℕ) → s ≤ 4294967296 * 16385 * 256 → fold (fold s) < 4294967296
 large-folds s h = omega arith
 
 -- ---- the ones' complement sum
-same-folds : {low n : ℕ} (high : ℕ) → Sums high low n → n ≤ 65536 → low ≤ 4294967296 * 16385
+same-folds : {low : ℕ} (high : ℕ) → Sums high low → high < 4294967296 → low ≤ 4294967296 * 16385
     → fold (fold (fold (fold (low * 256)))) ≡ fold (fold high)
 same-folds {low} zero s h g = let e : low ≡ 0 = omega arith in rw e
 same-folds {low} (suc k) s h g =
     let most : low * 256 ≤ 4294967296 * 16385 * 256 = omega (arith, g) in
     let some : 0 < low * 256 = omega (arith, s .same) in
-    let small : suc k < 4294967296 = omega (arith, s .most, h) in
     let f = then (folded2 (low * 256)) (folded2 (fold (fold (low * 256)))) in
     let u = folded2 (suc k) in
     equal (fold (fold (fold (fold (low * 256))))) (fold (fold (suc k))) (f .times) (u .times + s .times)
     (f .more some) (two-folds (fold (fold (low * 256))) (large-folds (low * 256) most))
-    (u .more (omega arith)) (two-folds (suc k) small)
+    (u .more (omega arith)) (two-folds (suc k) h)
     (omega (arith, f .same, u .same, s .same))
 
 pub low-ones-sum : (p : List ℕ) → Octets p → length p ≤ 65536 → lowTotal p ≤ 4294967296 * 16385
     → fold (fold (fold (fold (lowTotal p * 256)))) ≡ onesSum p
-low-ones-sum p o h g = same-folds (total true p) (both-sums (octets-small p o)) h g
+low-ones-sum p o h g = let t = total-most p o in same-folds (total true p) (both-sums (octets-small p o)) (omega arith) g

@@ -1,4 +1,5 @@
 pub mod Worked
+pub mod SumCases
 pub mod Places
 pub mod RecordBack
 pub mod ElementsBack
@@ -6,12 +7,14 @@ pub mod HeadBack
 pub mod Lengths
 pub mod ReadBack
 pub mod PacketOctets
-pub mod SumBack
+pub mod Folds
+pub mod SumField
 pub mod PacketBack
 pub mod Codes
 pub mod Peel
 pub mod Told
 pub mod RecordExact
 pub mod Exact
+pub mod SumCodes
 pub mod ReadWellFormed
 pub mod Refused

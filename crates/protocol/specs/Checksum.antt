@@ -2,9 +2,11 @@
 -- good when its 16-bit ones' complement sum is 0xFFFF' (RFC 1071).
 -- Assumes nothing.
 use Prim.Native.Nat.{ℕ, _+_, _*_, _-_, _/_, _%_}
-use mathlib.Core.Bool.{Bool, true, false, not}
+use mathlib.Core.Bool.{Bool, true, false, not, _&&_, _||_}
 use mathlib.Core.List.{List, [], _∷_}
+use lib.ListN.{set}
 use lib.Dec.{eqb}
+use Rattle.protocol.specs.Fields.{field2}
 
 -- an octet by its place in its 16-bit word: the first is the high one
 abbrev pub weigh : Bool → ℕ → ℕ
@@ -30,3 +32,14 @@ checksumOf p = 65535 - onesSum p
 
 abbrev pub goodSum : List ℕ → Bool
 goodSum p = eqb (onesSum p) 65535
+
+-- ---- 02, L4
+-- a packet with its checksum field 0
+abbrev pub fieldZero : List ℕ → List ℕ
+fieldZero p = set (set p 4 0) 5 0
+
+-- 'the field holds the checksum computed with the field 0, or that is 0 and the field 0xFFFF'
+abbrev pub rightField : List ℕ → Bool
+rightField p =
+    eqb (field2 p 4) (checksumOf (fieldZero p))
+    || (eqb (checksumOf (fieldZero p)) 0 && eqb (field2 p 4) 65535)

@@ -1,5 +1,5 @@
 // Reads entries from standard input and prints what the reader makes of each.
-// An entry: kind (1 checksum, 2 packet), length (2 octets), the octets.
+// An entry: kind (1 checksum, 2 packet, 3 checksum field), length (2 octets), the octets.
 // tests/vectors/make.py writes the entries and the lines that are expected.
 ghost use Prim.Native.Nat.{_≤_};
 ghost use lib.ListN.{length};
@@ -23,6 +23,14 @@ fn checksum(p: &[u8]) {
     print::sum_line(sum);
 }
 
+fn field(p: &[u8]) {
+    if p.len() > 65536 {
+        return;
+    }
+    let good = numbers::sum::good_sum(p);
+    print::field_line(octets::field2(p, 4), good);
+}
+
 fn entry(e: &[u8]) {
     let kind = octets::octet(e, 0);
     let p = octets::tail(e, 3);
@@ -31,6 +39,9 @@ fn entry(e: &[u8]) {
     }
     if kind == 2 {
         packet::lines(p);
+    }
+    if kind == 3 {
+        field(p);
     }
 }
 

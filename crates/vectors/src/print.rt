@@ -57,3 +57,12 @@ pub fn sum_line(sum: u32) {
     hex4(sum ^ 65535);
     line_end();
 }
+
+// The checksum field, and whether it is good.
+pub fn field_line(field: u16, good: bool) {
+    text(b"field ");
+    hex4(field as u32);
+    text(b" good ");
+    bit(good);
+    line_end();
+}

@@ -66,7 +66,7 @@ fn fixed_code(p: &[u8]) -> u8
     if !type_good(p) {
         return 7;
     }
-    if numbers::sum::ones_sum(p) != 65535 {
+    if !numbers::sum::good_sum(p) {
         return 8;
     }
     if octets::field2(p, 6) != 0 {

@@ -36,6 +36,17 @@ pub fn ignored(packet: &mut [u8], random: &mut Random) {
     wire::fit(packet);
 }
 
+/// The unused field of the common part is such that all but the checksum
+/// field sums to 0xFFFF: then 0 and 0xFFFF are right there, and nothing else.
+pub fn zero_checksum(packet: &mut [u8], random: &mut Random) {
+    let unused = common(packet) + 4;
+    packet[unused..unused + 2].copy_from_slice(&[0, 0]);
+    wire::fit(packet);
+    packet.copy_within(4..6, unused);
+    let field: u16 = random.of(&[0, 0xFFFF, 0xFFFF, 1, 0xFFFE]);
+    packet[4..6].copy_from_slice(&field.to_be_bytes());
+}
+
 /// A malformed packet from a good one; sometimes it stays good.
 pub fn malform(mut packet: Vec<u8>, random: &mut Random) -> Vec<u8> {
     let is_hello = packet[1] == HELLO;

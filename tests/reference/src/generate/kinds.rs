@@ -245,6 +245,14 @@ pub const KINDS: &[Flavour] = &[
         ..BASE
     },
     Flavour {
+        name: "zero",
+        acts: &[
+            (Zero, 40), (Steer, 25), (Poll, 8), (Later, 10), (Set, 8), (Purge, 3), (Update, 4),
+            (Up, 2),
+        ],
+        ..BASE
+    },
+    Flavour {
         name: "storm",
         goal: Goal::Up,
         puppets: (1, 3),

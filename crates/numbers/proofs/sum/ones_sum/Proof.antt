@@ -3,7 +3,7 @@ use mathlib.Core.Path.{_≡_, ap, _∙_}
 use Prim.Native.Nat.{ℕ, _*_}
 use native.Mathlib.Omega.{arith}
 use Rattle.protocol.specs.Checksum.{fold, onesSum}
-use Rattle.protocol.proofs.SumBack.{sum-fits}
+use Rattle.protocol.proofs.Folds.{sum-fits}
 use Rattle.numbers.proofs.Sums.{low-ones-sum}
 use borrow.Author.Needs.{needs}
 use Rattle.numbers.proofs.sum.ones_sum.Statement.{statement}

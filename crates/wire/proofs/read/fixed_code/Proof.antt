@@ -21,7 +21,7 @@ type-ok : (c : tie.Else3) → typeGood (c .before .before .before .before .befor
 type-ok c = sym (c .before .type-good .ensures) ∙ not-false (c .before .type-good .result) (c .if3 .left)
 
 sum-ok : (c : tie.Else4) → goodSum (c .before .before .before .before .before .before .before .before .before .args .p .now) ≡ true
-sum-ok c = equal 65535 (c .before .ones-sum .ensures) (c .if4 .left)
+sum-ok c = sym (c .before .good-sum .ensures .0) ∙ not-false (c .before .good-sum .result) (c .if4 .left)
 
 returns : tie.Need-returns
 returns c = code-5 (c .before .before .before .args .p .now) (sym (c .before .length-good .ensures) ∙ not-true (c .before .length-good .result) (c .if1 .taken))
@@ -39,21 +39,21 @@ returns-3 c =
     code-7 (start .args .p .now) (length-ok at-length-ok) (version-ok at-version-ok)
     (sym (at-type-good .type-good .ensures) ∙ not-true (at-type-good .type-good .result) (c .if3 .taken))
 
-ones-sum-requires : tie.Need-ones-sum-requires
-ones-sum-requires c κs =
+good-sum-requires : tie.Need-good-sum-requires
+good-sum-requires c κs =
     let at-length-ok = c .before .before .before .before in
     let start = at-length-ok .before .before .before in
     short (start .args .p .now) (length-ok at-length-ok)
 
 returns-4 : tie.Need-returns-4
 returns-4 c =
-    let at-ones-sum = c .before in
-    let at-type-ok = at-ones-sum .before in
+    let at-good-sum = c .before in
+    let at-type-ok = at-good-sum .before in
     let at-version-ok = at-type-ok .before .before in
     let at-length-ok = at-version-ok .before .before in
     let start = at-length-ok .before .before .before in
     code-8 (start .args .p .now) (length-ok at-length-ok) (version-ok at-version-ok) (type-ok at-type-ok)
-    (unequal 65535 (at-ones-sum .ones-sum .ensures) (c .if4 .taken))
+    (sym (at-good-sum .good-sum .ensures .0) ∙ not-true (at-good-sum .good-sum .result) (c .if4 .taken))
 
 returns-5 : tie.Need-returns-5
 returns-5 c =
@@ -87,7 +87,7 @@ fixed-code-spec =
     returns-2
     (λ c κs. search needs)
     returns-3
-    ones-sum-requires
+    good-sum-requires
     returns-4
     (λ c κs. search needs)
     returns-5

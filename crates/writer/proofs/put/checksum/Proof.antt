@@ -1,5 +1,5 @@
 use native.Mathlib.Omega.{arith}
-use Rattle.protocol.proofs.SumBack.{sum-fits}
+use Rattle.protocol.proofs.Folds.{sum-fits}
 use borrow.Author.Needs.{needs}
 use Rattle.writer.proofs.put.checksum.Statement.{statement}
 use Rattle.writer.proofs.put.checksum.Tie as tie
