@@ -69,8 +69,8 @@ pub fn ones_sum(p: &[u8]) -> u32
     fold(fold(fold(fold(total(p) * 256)))) as u32
 }
 
-// Whether the sum of a packet is good, with no copy of it: then, and only then, its field holds the checksum computed with the field 0,
-// or that is 0 and the field 0xFFFF (02, L4).
+// Whether the sum of a packet is good, taken over the packet where it lies. Then, and only then, its field holds the checksum computed
+// with the field 0, or that is 0 and the field 0xFFFF (02, L4). Below the reader: for at most 65536 octets.
 pub fn good_sum(p: &[u8]) -> bool
     requires { ⌜ length (now p) ≤ 65536 ⌝ }
     ensures { λ r. let s = now (p .entry) in ⌜ (r ≡ definition.goodSum s) × (r ≡ definition.rightField s) ⌝ }
