@@ -2,8 +2,8 @@
 """Writes the vectors of the packet reader: crates/vectors/stdin and crates/vectors/stdout.
 
 The reader below is written from document 01, from requests L4 and L6 of document 02 for the
-checksum field and the positions, and from RFC 2334, appendix B, for the layouts. It shares no code and no definition with the
-crates. Run it by hand after a change here, and commit both files.
+checksum field and the positions, and from RFC 2334, appendix B, for the layouts. It shares no
+code and no definition with the crates. Run it by hand after a change here, and commit both files.
 
     python3 tests/vectors/make.py           write both files
     python3 tests/vectors/make.py --list    print each vector's number, name and first line

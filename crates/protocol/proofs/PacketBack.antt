@@ -8,7 +8,7 @@ use native.Mathlib.Omega.{arith}
 use lib.ListN.{length}
 use Rattle.protocol.specs.Sizes.{fixedSize, packetMost}
 use Rattle.protocol.specs.Fields.{field2}
-use Rattle.protocol.specs.Checksum.{checksumOf, goodSum, fieldZero, rightField}
+use Rattle.protocol.specs.Checksum.{checksumOf, goodSum, withField, rightField}
 use Rattle.protocol.specs.Messages.{Message}
 use Rattle.protocol.specs.Layouts.{Ignored, zeros, layout, packetOf}
 use Rattle.protocol.specs.Reading.{readPacket, message}
@@ -23,16 +23,16 @@ field-of : (g : Ignored) (sum : ℕ) (m : Message) → field2 (layout g sum m) 4
 unfolding layout
 field-of g sum m = omega arith
 
-zero-of : (g : Ignored) (sum : ℕ) (m : Message) → fieldZero (layout g sum m) ≡ layout g 0 m
+field-put : (g : Ignored) (x sum : ℕ) (m : Message) → withField x (layout g sum m) ≡ layout g x m
 unfolding layout
-zero-of g sum m = refl
+field-put g x sum m = refl
 
 -- what we write there is the checksum computed with the field 0 (02, L4)
-pub written-field : (m : Message) → field2 (packetOf m) 4 ≡ checksumOf (fieldZero (packetOf m))
+pub written-field : (m : Message) → field2 (packetOf m) 4 ≡ checksumOf (withField 0 (packetOf m))
 unfolding packetOf
 written-field m =
     let sum : ℕ = checksumOf (layout zeros 0 m) in
-    field-of zeros sum m ∙ ap checksumOf (sym (zero-of zeros sum m))
+    field-of zeros sum m ∙ ap checksumOf (sym (field-put zeros 0 sum m))
 
 -- ---- a right sender's packets, whatever stands in the ignored fields
 module _ (w : ℕ) (g : Ignored) (sum : ℕ) (m : Message) (narrow : w ≤ 20) (good : WellFormed w m) (fit : IgnoredFit g m) (sums : sum < 65536) where

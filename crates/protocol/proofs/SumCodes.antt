@@ -13,7 +13,7 @@ use Rattle.protocol.specs.Reading.{message, readPacket, refusalOf}
 use Rattle.protocol.specs.WellFormed.{Octets}
 use Rattle.protocol.proofs.Codes.{code-8, read-as}
 use Rattle.protocol.proofs.Exact.{length-told}
-use Rattle.protocol.proofs.SumField.{good-right, good-field}
+use Rattle.protocol.proofs.SumField.{good-field}
 
 module _ (w : ℕ) (p : List ℕ) (narrow : w ≤ 20) (o : Octets p) where
   -- a packet of a good length

@@ -3,7 +3,7 @@
 -- Assumes nothing.
 use Prim.Native.Nat.{ℕ, zero, suc, _+_, _-_, _≤_, _<_}
 use mathlib.Core.Path.{_≡_, refl, sym, ap, _∙_}
-use mathlib.Core.Bool.{Bool, true, false, _&&_, _||_}
+use mathlib.Core.Bool.{Bool, true, false, _&&_}
 use mathlib.Core.List.{List, [], _∷_}
 use mathlib.Core.Logic.{_⊎_, inl, inr, ⊎-elim}
 use native.Mathlib.Omega.{arith}
@@ -12,7 +12,7 @@ use lib.Dec.{eqb}
 use borrow.Author.Tests.{eq-eqb, eqb-true, eqb-false}
 use Rattle.laws.proofs.Bools.{and-true, both-true, one-true, or-right, same-answer}
 use Rattle.protocol.specs.Fields.{field2}
-use Rattle.protocol.specs.Checksum.{total, fold, checksumOf, goodSum, fieldZero, rightField}
+use Rattle.protocol.specs.Checksum.{total, fold, checksumOf, goodSum, withField, rightField}
 use Rattle.protocol.specs.WellFormed.{Octets}
 use Rattle.protocol.proofs.Folds.{total-most, two-folds, Folded, folded2}
 
@@ -20,16 +20,16 @@ use Rattle.protocol.proofs.Folds.{total-most, two-folds, Folded, folded
 abbrev pub Cases : ℕ → ℕ → Type 0
 Cases f x = (f ≡ x) ⊎ ((x ≡ 0) × (f ≡ 65535))
 
-pub right-by : (p : List ℕ) → Cases (field2 p 4) (checksumOf (fieldZero p)) → rightField p ≡ true
-right-by p (inl e) = rw (eq-eqb (field2 p 4) (checksumOf (fieldZero p)) e)
+pub right-by : (p : List ℕ) → Cases (field2 p 4) (checksumOf (withField 0 p)) → rightField p ≡ true
+right-by p (inl e) = rw (eq-eqb (field2 p 4) (checksumOf (withField 0 p)) e)
 right-by p (inr e) =
-    or-right (eqb (field2 p 4) (checksumOf (fieldZero p))) _
-    (both-true (eq-eqb (checksumOf (fieldZero p)) 0 (e .0)) (eq-eqb (field2 p 4) 65535 (e .1)))
+    or-right (eqb (field2 p 4) (checksumOf (withField 0 p))) _
+    (both-true (eq-eqb (checksumOf (withField 0 p)) 0 (e .0)) (eq-eqb (field2 p 4) 65535 (e .1)))
 
-right-tells : (p : List ℕ) → rightField p ≡ true → Cases (field2 p 4) (checksumOf (fieldZero p))
+right-tells : (p : List ℕ) → rightField p ≡ true → Cases (field2 p 4) (checksumOf (withField 0 p))
 right-tells p r =
     let f : ℕ = field2 p 4 in
-    let x : ℕ = checksumOf (fieldZero p) in
+    let x : ℕ = checksumOf (withField 0 p) in
     ⊎-elim (λ h. inl (eqb-true f x h))
     (λ h. let q = and-true (eqb x 0) (eqb f 65535) h in inr (eqb-true x 0 (q .0), eqb-true f 65535 (q .1)))
     (one-true (eqb f x) (eqb x 0 && eqb f 65535) r)
@@ -54,7 +54,7 @@ module _ {z s t : ℕ} (f : ℕ) (r : Folded z s) (b : Folded (z + f) t) (fits :
 
 -- ---- octets
 -- the field stands at an even position, so the sum has it as it is
-sum-apart : (p : List ℕ) → total true p ≡ total true (fieldZero p) + field2 p 4
+sum-apart : (p : List ℕ) → total true p ≡ total true (withField 0 p) + field2 p 4
 unfolding total
 sum-apart [] = refl
 sum-apart (a ∷ []) = omega arith
@@ -66,7 +66,7 @@ sum-apart (a ∷ b ∷ c ∷ d ∷ e ∷ f ∷ p) = omega arith
 
 module _ (p : List ℕ) (o : Octets p) (few : length p ≤ 65536) where
   abbrev rest : ℕ
-  rest = total true (fieldZero p)
+  rest = total true (withField 0 p)
 
   abbrev field : ℕ
   field = field2 p 4

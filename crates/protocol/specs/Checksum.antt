@@ -33,13 +33,13 @@ checksumOf p = 65535 - onesSum p
 abbrev pub goodSum : List ℕ → Bool
 goodSum p = eqb (onesSum p) 65535
 
--- ---- 02, L4
--- a packet with its checksum field 0
-abbrev pub fieldZero : List ℕ → List ℕ
-fieldZero p = set (set p 4 0) 5 0
+-- ---- the checksum field
+-- a packet with this number in it
+abbrev pub withField : ℕ → List ℕ → List ℕ
+withField x p = set (set p 4 (x / 256)) 5 (x % 256)
 
--- 'the field holds the checksum computed with the field 0, or that is 0 and the field 0xFFFF'
+-- 02, L4: 'the field holds the checksum computed with the field 0, or that is 0 and the field 0xFFFF'
 abbrev pub rightField : List ℕ → Bool
 rightField p =
-    eqb (field2 p 4) (checksumOf (fieldZero p))
-    || (eqb (checksumOf (fieldZero p)) 0 && eqb (field2 p 4) 65535)
+    eqb (field2 p 4) (checksumOf (withField 0 p))
+    || (eqb (checksumOf (withField 0 p)) 0 && eqb (field2 p 4) 65535)

@@ -6,7 +6,7 @@ use mathlib.Core.Bool.{Bool, true, false}
 use mathlib.Core.List.{List, [], _∷_, _++_, append-nil, append-assoc}
 use native.Mathlib.Nat.{add-zero, le-of-eq}
 use native.Mathlib.Omega.{arith}
-use lib.ListN.{length, take, drop, getD, set, length-append, length-drop, take-append-drop}
+use lib.ListN.{length, take, drop, getD, length-append, length-drop, take-append-drop}
 use lib.Seq.{take-all, take-at, length-take-le}
 use Rattle.laws.specs.Puts.{putAt, written, Put}
 use Rattle.laws.proofs.Puts.{put-none, then-put, three-puts, put-before, put-zero, take-written, written-again, set-written}
@@ -18,7 +18,7 @@ use Rattle.protocol.specs.declared.CaFlags.{CaFlags}
 use Rattle.protocol.specs.Sizes.{fixedSize}
 use Rattle.protocol.specs.Fields.{put2, put4}
 use Rattle.protocol.specs.Numbers.{bitsOf}
-use Rattle.protocol.specs.Checksum.{checksumOf}
+use Rattle.protocol.specs.Checksum.{checksumOf, withField}
 use Rattle.protocol.specs.Messages.{CsaRecord, Body, ca, csuRequest, csuReply, csus, hello, Message, kindOfBody}
 use Rattle.protocol.specs.Layouts.{bit, zeros, flagsField, flagsOf, countOf, recordOctets, recordsOctets, receiversOctets}
 use Rattle.protocol.specs.Layouts.{beforeCommon, commonHead, elements, mandatory, fixedPart, layout, packetOf}
@@ -76,7 +76,7 @@ module _ (c : Common) (widths : (length (c .sender) ≡ 4) × (length (c .receiv
 
 -- ---- the checksum and the head put
 pub seal-part : (out : List ℕ) (n : ℕ) → 8 ≤ n → n ≤ length out
-    → set (set out 4 (checksumOf (take n out) / 256)) 5 (checksumOf (take n out) % 256) ≡ written (summed (take n out)) out
+    → withField (checksumOf (take n out)) out ≡ written (summed (take n out)) out
 unfolding summed
 seal-part out n h g = set-written out n 4 5 (checksumOf (take n out) / 256) (checksumOf (take n out) % 256) (omega arith) (omega arith) g
 

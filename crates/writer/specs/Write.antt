@@ -1,17 +1,17 @@
 -- What is written: the message of each writer, its contract, and the parts of which a packet is put together.
 -- Assumes nothing.
-use Prim.Native.Nat.{ℕ, _+_, _-_, _/_, _%_, _≤_}
+use Prim.Native.Nat.{ℕ, _+_, _-_, _≤_}
 use mathlib.Core.Path.{_≡_}
 use mathlib.Core.Bool.{Bool}
 use mathlib.Core.List.{List, [], _∷_, _++_}
-use lib.ListN.{length, take, drop, set}
+use lib.ListN.{length, take, drop}
 use Rattle.laws.specs.Choice.{pick}
 use Rattle.laws.specs.Puts.{written, Put}
 use Rattle.protocol.specs.declared.Kind.{Kind}
 use Rattle.protocol.specs.declared.CsaNumber.{CsaNumber}
 use Rattle.protocol.specs.Sizes.{idLength, fixedSize}
 use Rattle.protocol.specs.Fields.{put2, put4}
-use Rattle.protocol.specs.Checksum.{checksumOf}
+use Rattle.protocol.specs.Checksum.{checksumOf, withField}
 use Rattle.protocol.specs.Messages.{CsaRecord, Body, hello, Message}
 use Rattle.protocol.specs.Layouts.{fixedPart, recordsOctets, packetOf}
 use Rattle.writer.specs.declared.write.Common.{Common}
@@ -69,7 +69,7 @@ recordFields hops keyLength payloadLength flags bits =
 
 -- a packet with its checksum in place
 unfoldable pub summed : List ℕ → List ℕ
-summed p = set (set p 4 (checksumOf p / 256)) 5 (checksumOf p % 256)
+summed p = withField (checksumOf p) p
 
 -- the packet with b behind its fixed part
 unfoldable pub sealed : Kind → List ℕ → List ℕ

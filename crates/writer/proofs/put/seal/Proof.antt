@@ -1,10 +1,11 @@
 -- The two octets stored are the checksum in its place among the first n octets; those behind them stay.
 -- Assumes nothing.
 use mathlib.Core.Path.{sym, ap, _∙_}
-use Prim.Native.Nat.{ℕ, _/_, _%_}
+use Prim.Native.Nat.{ℕ}
 use native.Mathlib.Omega.{arith}
 use lib.Seq.{length-take-le}
-use lib.ListN.{set, length-set}
+use lib.ListN.{length-set}
+use Rattle.protocol.specs.Checksum.{withField}
 use Rattle.writer.proofs.Heads.{seal-part}
 use borrow.Author.Needs.{needs}
 use Rattle.writer.proofs.put.seal.Statement.{statement}
@@ -22,7 +23,7 @@ slice-write-out-2 c = simp length-set (omega arith)
 returns : tie.Need-returns
 returns c =
     let a = c .before .before .before .args in
-    ap (λ (x : ℕ). set (set (a .out .now) 4 (x / 256)) 5 (x % 256)) (c .checksum .ensures) ∙ seal-part (a .out .now) (a .n) (omega arith) (omega arith)
+    ap (λ (x : ℕ). withField x (a .out .now)) (c .checksum .ensures) ∙ seal-part (a .out .now) (a .n) (omega arith) (omega arith)
 
 pub seal-spec : {M : Type 1} → statement M
 seal-spec =
