@@ -1,5 +1,7 @@
 // Searches, stores and next rows on a memory of the server, in number and kind as standard input asks: for tests/bench, which times it
 // against the same work in Rust. Input: kind (0 find, 1 store, 2 next four), rows used (at most 64), how often (4 octets).
+#![tactic(auto)]
+
 ghost use Rattle.std.specs.Prelude.{◌≡◌, ◌<◌, length};
 ghost use Rattle.memory.specs.Layout.{memory_size};
 

@@ -1,4 +1,6 @@
 // The marked cases of document 01 in one constant table, proved under a single statement: the contract of `marked`.
+#![tactic(auto)]
+
 ghost use Rattle.std.specs.Prelude.{◌≡◌};
 ghost use Rattle.cases.specs.Cases.{numbers, outcome, case_at};
 

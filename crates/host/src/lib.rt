@@ -1,4 +1,6 @@
 // Functions for a program in Rust or C to link: on numbers and slices alone.
+#![tactic(auto)]
+
 ghost use Rattle.std.specs.Prelude.{◌≡◌};
 ghost use Rattle.host.specs.Host.{used_after};
 

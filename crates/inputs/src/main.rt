@@ -1,5 +1,7 @@
 // Replays several inputs, one after the other, each as the replay program does. Input: for each its length (4 octets), at most 65700, then its
 // octets. For tests of what ends an input: nothing, settings that are refused, a short record.
+#![tactic(auto)]
+
 const SPACE: usize = 65700;
 
 fn print(text: &[u8; 20480], n: usize) {

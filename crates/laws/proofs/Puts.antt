@@ -9,20 +9,10 @@ use lib.Seq.{take_all, take_at, drop_at, drop-drop, length-take-le, set-append_l
 use borrow.Rule.Slice.PartMut.{mid_of, post_of, put_mid, mid_len, Post-is}
 use Rattle.laws.specs.Puts.{put_at, written, Put}
 
--- a copy of n elements into a list of n leaves the source
-copied : (s d : List ℕ) (n : ℕ) → length s ≡ n → length d ≡ n → take n s ++ drop n d ≡ s
-copied s d n p q =
-    let h : length d ≤ n = omega arith in
-    let k : length s ≤ n = omega arith in
-    ap (λ (l : List ℕ). take n s ++ l) (drop_of_length-le d h) ∙ append-nil (take n s) ∙ take_all n s k
-
--- v copied over the part of b from `at` up to e
-pub put_part : (b v l : List ℕ) (at e : ℕ) → at ≤ e → e ≤ length b → length v ≡ e - at → l ≡ take (length v) v ++ drop (length v) (mid_of at (e - at) b)
-    → put_mid at (e - at) b l ≡ take at b ++ (v ++ drop e b)
-put_part b v l at e h g n eq =
-    let m : length (mid_of at (e - at) b) ≡ length v = mid_len at e b g ∙ sym n in
-    ap (λ (z : List ℕ). take at b ++ (z ++ post_of at (e - at) b)) (eq ∙ copied v (mid_of at (e - at) b) (length v) refl m)
-    ∙ ap (λ (z : List ℕ). take at b ++ (v ++ z)) (Post-is at e b h)
+-- v put over the part of b from `at` up to e
+pub put_part : (b v l : List ℕ) (at e : ℕ) → at ≤ e → e ≤ length b → l ≡ v → put_mid at (e - at) b l ≡ take at b ++ (v ++ drop e b)
+put_part b v l at e h g eq =
+    ap (λ (z : List ℕ). take at b ++ (z ++ post_of at (e - at) b)) eq ∙ ap (λ (z : List ℕ). take at b ++ (v ++ z)) (Post-is at e b h)
 
 -- nothing put
 pub put_none : (out : List ℕ) (at : ℕ) → Put [] at out out at

@@ -91,12 +91,18 @@ module _ {A B : Type 0} (g : A → B) where
   all_map Q (x ∷ l) h = (h.0, all_map Q l h.1)
 
   pub map_in : (x : A) (l : List A) → In x l → In (g x) (map g l)
+  map_in x [] i = elim i [ ]
   map_in x (a ∷ l) here = here
   map_in x (a ∷ l) (there i) = there (map_in x l i)
 
+  in_map_by : (a : A) (l : List A) (y : B) → In y (g a ∷ map g l) → (In y (map g l) → (x : A) × In x l × (g x ≡ y))
+      → (x : A) × In x (a ∷ l) × (g x ≡ y)
+  in_map_by a l y here k = (a, here, refl)
+  in_map_by a l y (there i) k = let h = k i in (h.0, there h.1, h.2)
+
   pub in_map : (y : B) (l : List A) → In y (map g l) → (x : A) × In x l × (g x ≡ y)
-  in_map y (a ∷ l) here = (a, here, refl)
-  in_map y (a ∷ l) (there i) = let h = in_map y l i in (h.0, there h.1, h.2)
+  in_map y [] i = elim i [ ]
+  in_map y (a ∷ l) i = in_map_by a l y i (in_map y l)
 
   without_map_by : (p : A → Bool) (q : B → Bool) (x : A) (xs : List A) → without q (map g xs) ≡ map g (without p xs) → (b : Bool)
       → pick b (without q (map g xs)) (g x ∷ without q (map g xs)) ≡ map g (pick b (without p xs) (x ∷ without p xs))

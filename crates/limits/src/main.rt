@@ -1,5 +1,7 @@
 // What no short list shows, by the functions that a host calls: code 3, for an out buffer under 284 octets, the missed count and the count of
 // update requests, which stop at 65535. Prints a line for each code, and for each count as it nears its end.
+#![tactic(auto)]
+
 ghost use Rattle.std.specs.Prelude.{◌≡◌, ◌+◌, ◌≤◌, length};
 
 use protocol::{CaFlags, CaNumber, CsaNumber};

@@ -1,4 +1,6 @@
 // Document 01, 'The replay program': records of 292 octets to events, and their lines.
+#![tactic(auto)]
+
 pub mod chunk;
 pub mod record;
 pub mod run;

@@ -1,5 +1,7 @@
 // The server's rows, marks, request lists and kept CAs, in one memory that the caller lends.
 // Every function is below the events: it asks that the memory has its size, and nothing of what it holds.
+#![tactic(auto)]
+
 pub mod entries;
 pub mod kept;
 mod layout;

@@ -10,7 +10,7 @@ fn first_of(memory: &[u8], at: usize, n: usize) -> [u8; 112]
     ensures { (length result ≡ 112) × (take n result ≡ part memory.now at n) }
 {
     let mut q = [0u8; 112];
-    bytes::copy(octets::part_of(memory, at, n), &mut q);
+    q[..n].copy_from_slice(octets::part_of(memory, at, n));
     q
 }
 

@@ -66,7 +66,7 @@ fn room_octets(memory: &[u8], k: usize, i: usize) -> [u8; 28]
         × (request_of (octet memory.now (request_tag_place k i)) result ≡ slice_index_or (rooms_in memory.now k) i no_request) }
 {
     let mut q = [0u8; 28];
-    bytes::copy(octets::part_of(memory, place(k, i), REQUEST_SIZE), &mut q);
+    q.copy_from_slice(octets::part_of(memory, place(k, i), REQUEST_SIZE));
     q
 }
 

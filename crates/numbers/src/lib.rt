@@ -1,4 +1,6 @@
 // CA numbers, CSA numbers and counts, and the checksum.
+#![tactic(auto)]
+
 pub mod sum;
 
 ghost use Rattle.std.specs.Prelude.{◌≡◌};

@@ -1,5 +1,7 @@
 // Octets of a lent slice: fields read, parts handed back, octets put in place.
 // The readers are total: an octet beyond the end is 0, a part beyond the end is shorter.
+#![tactic(auto)]
+
 ghost use Rattle.std.specs.Prelude.{◌≡◌, ◌+◌, ◌≤◌, length, take, drop};
 ghost use Rattle.laws.specs.Lists.{part};
 ghost use Rattle.laws.specs.Puts.{Put};
@@ -65,7 +67,7 @@ pub fn array4(p: &[u8]) -> [u8; 4]
     ensures { result ≡ p.now }
 {
     let mut a = [0u8; 4];
-    bytes::copy(p, &mut a);
+    a.copy_from_slice(p);
     a
 }
 
@@ -109,7 +111,7 @@ pub fn put(out: &mut [u8], at: usize, src: &[u8]) -> usize
     ensures { Put src.now at out.old out.new result }
 {
     let to = at + src.len();
-    bytes::copy(src, &mut out[at..to]);
+    out[at..to].copy_from_slice(src);
     to
 }
 

@@ -109,13 +109,13 @@ mandatory_back w p g m e eight good fit =
     all_fine (fines_append b.before (common_fines w k p c g.flags m (elements g m.body) s good.sender.size
     (receiver_good w (octet p (c + 9)) m.body m.receiver good.receiver s.receiver_size) b.few)) in
     record {
-      fine = rw head (ap (λ (x : ℕ). elements_check w k p x (elements_at w k p)) s.count_at ∙ b.fine);
+      fine = rw head (ap (λ (x : ℕ). elements_check w k p x (elements_at w k p)) s.count_at_lem ∙ b.fine);
       read = λ j. record {
         protocol = s.protocol_at j;
         group = s.group_at j;
         sender = s.sender_at j;
         receiver = s.receiver_at j;
-        body = (ap (λ (x : ℕ). body_at w k p x (elements_at w k p)) s.count_at ∙ b.read) j;
+        body = (ap (λ (x : ℕ). body_at w k p x (elements_at w k p)) s.count_at_lem ∙ b.read) j;
       };
     }
 

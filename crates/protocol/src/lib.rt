@@ -1,4 +1,5 @@
 // The types that code and definitions share. Their meaning is in specs/.
+#![tactic(auto)]
 
 // A CA sequence number: unsigned, counted apart from CSA numbers (document 01, 'Packet layouts').
 #[derive(Drop)]

@@ -1,4 +1,6 @@
 // Records between packets and the memory: what those of a packet do to it, and those of our packets put where they are written.
+#![tactic(auto)]
+
 pub mod asked;
 pub mod held;
 pub mod put;

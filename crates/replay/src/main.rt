@@ -1,5 +1,7 @@
 // Reads records of 292 octets from standard input and prints a line for each: event number, code, octets written, rows used. All of it but the
 // reading and the writing is `lines::chunk`.
+#![tactic(auto)]
+
 use slots::state::Server;
 
 // Whole records that are read at once: 224.

@@ -10,7 +10,7 @@ use lib.ListN.{length}
 use borrow.Author.Tests.{eqb-true, ne_eqb, not-false}
 use Rattle.laws.specs.Choice.{pick}
 use Rattle.laws.specs.Tables.{has, same}
-use Rattle.laws.proofs.Bools.{and_true, or-false}
+use Rattle.laws.proofs.Bools.{and_true, or_false}
 use Rattle.protocol.specs.declared.Alignment.{Alignment}
 use Rattle.protocol.specs.declared.Alignment.TheVariants.{Down, Negotiate, Summarize, Update, Aligned}
 use Rattle.protocol.specs.Sizes.{id_length}
@@ -45,7 +45,7 @@ or_else_lem (suc a) b h = absurd (omega arith)
 id_told : (id : List ℕ) (others : Bool) (rest : ℕ) → pick (not (eqb (length id) id_length) || others) 17 rest ≡ 0 → length id ≡ id_length
 id_told id others rest h =
     let wrong : Bool = not (eqb (length id) id_length) in
-    eqb-true (length id) id_length (not-false (eqb (length id) id_length) (or-false wrong others (no_code (wrong || others) 16 rest h).0).0)
+    eqb-true (length id) id_length (not-false (eqb (length id) id_length) (or_false wrong others (no_code (wrong || others) 16 rest h).0).0)
 
 pub own_told : (c : Settings) → settings_code c ≡ 0 → length c.id ≡ id_length
 own_told c h = id_told c.id (eqb c.interval 0 || eqb c.factor 0) 0 h
@@ -85,7 +85,7 @@ module _ (s : Server) where
       let wrong : Bool = not (eqb (length id) id_length) in
       let others : Bool = same id s.settings.id || has (is_peer id) s.slots in
       let f = (no_code (not (ltb k slots_most)) 0 (pick (wrong || ((slot_at s k).used || others)) 17 0) (eqb-true (add_peer_code s k id) 0 h)).1 in
-      (or-false (slot_at s k).used others (or-false wrong ((slot_at s k).used || others) (no_code (wrong || ((slot_at s k).used || others)) 16 0 f).0).1).0
+      (or_false (slot_at s k).used others (or_false wrong ((slot_at s k).used || others) (no_code (wrong || ((slot_at s k).used || others)) 16 0 f).0).1).0
 
 -- ---- changes of ours: key and payload are good, and the entry's number is not spent, or not that of a purge
 module _ (s : Server) (key : List ℕ) where

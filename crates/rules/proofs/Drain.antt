@@ -10,7 +10,7 @@ use native.Mathlib.Omega.{arith}
 use lib.ListN.{length, get_or-map}
 use Rattle.laws.specs.Choice.{pick}
 use Rattle.laws.specs.Lists.{All}
-use Rattle.laws.specs.Tables.{on, change, update, count, In, here, there}
+use Rattle.laws.specs.Tables.{on, change, count, In, here, there}
 use Rattle.laws.proofs.Bools.{pick_of, is_false}
 use Rattle.laws.proofs.Integers.{not_less_same}
 use Rattle.laws.proofs.Cells.{each_change, change_update}
@@ -85,6 +85,7 @@ module _ (k : ℕ) where
 
     clears : (rs : List CsaRecord) (rows : List Row) → RowsInv live rows → (m : ℕ → Bool) → row_at rows i ≡ used e v m → (q : CsaRecord) → In q rs
         → same_entry e (entry_of q) ≡ true → q.number ≡ v.number → waits_for k (row_at (all_replied k rs rows) i) ≡ false
+    clears [] rows z m h q i same number = elim i [ ]
     clears (r ∷ rs) rows z m h q here same number =
         let y = change (holds (entry_of r)) (replied k r.number) rows in
         let now : row_at y i ≡ used e v (on k false m) = row_after r rows z m h ∙ taken r m same number in

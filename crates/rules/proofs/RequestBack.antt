@@ -51,7 +51,7 @@ module _ (p : List ℕ) (m : Message) (rs : List CsaRecord) (own : length m.send
       let s : Common id_length p 8 0 m (records_octets [] rs) = common id_length p 8 zeros m (records_octets [] rs) e eight own in
       let at : 24 + octet p 17 ≡ 28 = ap (λ (k : ℕ). 24 + k) (s.receiver_size ∙ peer) in
       let room : 28 ≤ length p = rw at at s.room in
-      ap (λ (k : ℕ). records_at id_length p k 28) (s.count_at ∙ n)
+      ap (λ (k : ℕ). records_at id_length p k 28) (s.count_at_lem ∙ n)
       ∙ records_back p rs 28 (ap (λ (k : ℕ). drop k p) (sym at) ∙ s.rest_at) room good
 
 -- the packet, whatever its checksum field

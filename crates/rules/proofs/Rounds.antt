@@ -10,7 +10,7 @@ use native.Mathlib.Omega.{arith}
 use lib.ListN.{length}
 use borrow.Author.Tests.{eqb-true, not-true}
 use Rattle.laws.specs.Choice.{pick}
-use Rattle.laws.specs.Tables.{has, count}
+use Rattle.laws.specs.Tables.{count}
 use Rattle.laws.proofs.Bools.{and_true, or_false, pick_of}
 use Rattle.laws.proofs.Cells.{within}
 use Rattle.laws.proofs.Tallies.{count_map}

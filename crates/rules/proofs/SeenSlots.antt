@@ -21,7 +21,7 @@ use Rattle.protocol.specs.declared.Last.{Last}
 use Rattle.protocol.specs.declared.Last.TheVariants.{Never, At}
 use Rattle.protocol.specs.Numbers.{next_ca}
 use Rattle.protocol.specs.Hello.{stale}
-use Rattle.protocol.specs.Messages.{CsaRecord, Message, ca, csu_request, csu_reply, hello}
+use Rattle.protocol.specs.Messages.{CsaRecord, Message, ca, csu_request, csu_reply}
 use Rattle.protocol.specs.Layouts.{bit, mandatory, layout, packet_of}
 use Rattle.laws.specs.Tables.{greater}
 use Rattle.rules.specs.Server.{Settings, Row, Slot}

@@ -14,7 +14,6 @@ use Rattle.protocol.specs.declared.Timers.{Timers}
 use Rattle.protocol.specs.Sizes.{id_length}
 use Rattle.protocol.specs.Hello.{stale}
 use Rattle.protocol.specs.Numbers.{next_ca}
-use Rattle.protocol.specs.Messages.{hello}
 use Rattle.protocol.specs.WellFormed.{Id}
 use Rattle.rules.specs.Server.{Settings, Request, Slot}
 use Rattle.rules.specs.Links as links

@@ -1,4 +1,6 @@
 // The server: the eight events of document 01, and what a host may ask of it.
+#![tactic(auto)]
+
 pub mod answers;
 pub mod codes;
 pub mod ends;

@@ -1,4 +1,6 @@
 // The peer slots in a lent table of words, 25 for each slot: read and put one at a time, so that no event copies them all.
+#![tactic(auto)]
+
 ghost use Rattle.std.specs.Prelude.{◌≡◌, ℕ, ◌<◌, length, get_or};
 ghost use Rattle.laws.specs.Tables.{on};
 ghost use Rattle.table.specs.Words.{table_size, slot_from, slot_in};

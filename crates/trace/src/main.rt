@@ -1,5 +1,7 @@
 // Replays lists of events and prints, behind each line, the octets written at that event and the state of the slot that the record's second octet
 // names. Input: for each list how many records it has (4 octets), then the records. For tests: the lines are compared with those of the reference.
+#![tactic(auto)]
+
 ghost use Rattle.std.specs.Prelude.{◌≡◌, ◌+◌, ◌*◌, ◌≤◌, length};
 
 use protocol::{Alignment, HelloState, Role};

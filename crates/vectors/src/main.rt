@@ -1,6 +1,8 @@
 // Reads entries from standard input and prints what the reader makes of each.
 // An entry: kind (1 checksum, 2 packet, 3 checksum field), length (2 octets), the octets.
 // tests/vectors/make.py writes the entries and the lines that are expected.
+#![tactic(auto)]
+
 ghost use Rattle.std.specs.Prelude.{◌≤◌, length};
 
 mod packet;

@@ -1,4 +1,6 @@
 // SCSP packets, read where they lie.
+#![tactic(auto)]
+
 mod check;
 mod fine;
 pub mod read;

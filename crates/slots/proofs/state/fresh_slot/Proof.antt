@@ -1,9 +1,0 @@
-use borrow.Author.Rules.{rules}
-use Rattle.slots.proofs.state.fresh_slot.Statement.{statement}
-use Rattle.slots.proofs.state.fresh_slot.Tie as tie
-
-returns : tie.Need-returns
-returns c = rw (c.no-timers.ensures, c.before.fresh-link.ensures)
-
-pub fresh-slot-spec : {M : Type 1} → statement M
-fresh-slot-spec = tie.close (tie.spec (λ c κs. search rules) (λ c κs. search rules) returns)
