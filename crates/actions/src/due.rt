@@ -27,7 +27,7 @@ const CA_INTERVAL: u32 = 5;
 const UPDATE_INTERVAL: u32 = 1;
 
 // What a poll sends. `dueKind` gives the definition of each.
-#[derive(Drop)]
+#[derive(Clone, Copy)]
 pub enum Due {
     Nothing,
     Hello,
@@ -38,7 +38,7 @@ pub enum Due {
 }
 
 // What is due, and the rows of an update request.
-#[derive(Drop)]
+#[derive(Clone, Copy)]
 pub struct Plan {
     pub due: Due,
     pub picks: Picks,

@@ -11,7 +11,7 @@ use slots::state::Slot;
 use slots::{alignment, state};
 
 // What an event made of its slot, and how many octets it wrote.
-#[derive(Drop)]
+#[derive(Clone, Copy)]
 pub struct Acted {
     pub slot: Slot,
     pub written: usize,

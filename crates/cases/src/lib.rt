@@ -5,7 +5,7 @@ ghost use Rattle.std.specs.Prelude.{◌≡◌};
 ghost use Rattle.cases.specs.Cases.{numbers, outcome, case_at};
 
 // What is computed from the numbers of a row. `outcome` says how.
-#[derive(Drop)]
+#[derive(Clone, Copy)]
 pub enum Rule {
     Order,
     Next,
@@ -19,14 +19,14 @@ pub enum Rule {
 }
 
 // The numbers of a row, unused ones 0; a CSA number by its 32 bits.
-#[derive(Drop)]
+#[derive(Clone, Copy)]
 pub struct Numbers(pub u32, pub u32, pub u32, pub u32, pub u32);
 
 // A row: which marked case it is of, its rule, the numbers and the expected result.
-#[derive(Drop)]
+#[derive(Clone, Copy)]
 pub struct Case(pub u32, pub Rule, pub Numbers, pub u32);
 
-#[derive(Drop)]
+#[derive(Clone, Copy)]
 pub enum Found {
     Row(Case),
     NoRow,

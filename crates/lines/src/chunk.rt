@@ -14,21 +14,21 @@ use server::answers::Answer;
 use slots::state::Server;
 
 // The answer to the first record, and how many octets of text there are.
-#[derive(Drop)]
+#[derive(Clone, Copy)]
 pub struct Opened {
     pub answer: Answer,
     pub text: usize,
 }
 
 // The server behind a record, and the place behind its line.
-#[derive(Drop)]
+#[derive(Clone, Copy)]
 pub struct Stepped {
     pub server: Server,
     pub text: usize,
 }
 
 // The server behind a chunk, the number of the next event, the octets taken of the chunk, and how many octets of text there are.
-#[derive(Drop)]
+#[derive(Clone, Copy)]
 pub struct Chunk {
     pub server: Server,
     pub number: u64,

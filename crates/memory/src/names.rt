@@ -6,7 +6,7 @@ ghost use Rattle.memory.specs.Search.{FitsKey};
 use crate::layout::ID;
 use crate::tags;
 
-#[derive(Drop)]
+#[derive(Clone, Copy)]
 pub struct Name {
     pub octets: [u8; 20],
     pub len: usize,

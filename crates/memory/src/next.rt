@@ -10,7 +10,7 @@ use crate::layout::ROWS;
 use crate::{marks, rows};
 
 // At most four rows, of which count are meant; next is the place behind the last of them, or where the search began.
-#[derive(Drop)]
+#[derive(Clone, Copy)]
 pub struct Picks {
     pub count: usize,
     pub rows: [usize; 4],

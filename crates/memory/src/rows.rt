@@ -11,7 +11,7 @@ use crate::layout::{ID, KEY, LENGTHS_AT, NAME_PLACE, PAYLOAD, ROW_SIZE, ROWS, TA
 use crate::{names, sizes, tags};
 use protocol::CsaNumber;
 
-#[derive(Drop)]
+#[derive(Clone, Copy)]
 pub enum Found {
     At(usize),
     Nothing,

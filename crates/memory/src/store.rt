@@ -13,7 +13,7 @@ use crate::rows::Found;
 use crate::{rows, tags};
 use protocol::CsaNumber;
 
-#[derive(Drop)]
+#[derive(Clone, Copy)]
 pub enum Inserted {
     Stored,
     Full,

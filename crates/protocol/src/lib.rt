@@ -2,15 +2,15 @@
 #![tactic(auto)]
 
 // A CA sequence number: unsigned, counted apart from CSA numbers (document 01, 'Packet layouts').
-#[derive(Drop)]
+#[derive(Clone, Copy)]
 pub struct CaNumber(pub u32);
 
 // A CSA sequence number: signed, -2147483648 reserved (document 01, 'Packet layouts').
-#[derive(Drop)]
+#[derive(Clone, Copy)]
 pub struct CsaNumber(pub i32);
 
 // The five types of packet. `type_of` gives the number of each.
-#[derive(Drop)]
+#[derive(Clone, Copy)]
 pub enum Kind {
     Ca,
     CsuRequest,
@@ -20,7 +20,7 @@ pub enum Kind {
 }
 
 // The M, I and O bits of a CA.
-#[derive(Drop)]
+#[derive(Clone, Copy)]
 pub struct CaFlags {
     pub master: bool,
     pub initial: bool,
@@ -28,28 +28,28 @@ pub struct CaFlags {
 }
 
 // Whether the fields of a packet obey the rules, or the position of the first that does not.
-#[derive(Drop)]
+#[derive(Clone, Copy)]
 pub enum Checked {
     Fine,
     Breaks(usize),
 }
 
 // What follows a CSA number when its entry changes: the next one, or none.
-#[derive(Drop)]
+#[derive(Clone, Copy)]
 pub enum Step {
     Number(CsaNumber),
     Spent,
 }
 
 // The side of a peer in an alignment.
-#[derive(Drop)]
+#[derive(Clone, Copy)]
 pub enum Role {
     Master,
     Slave,
 }
 
 // The states of the Hello machine (document 01, 'Hello').
-#[derive(Drop)]
+#[derive(Clone, Copy)]
 pub enum HelloState {
     Down,
     Waiting,
@@ -58,7 +58,7 @@ pub enum HelloState {
 }
 
 // The states of the alignment machine (document 01, 'Alignment').
-#[derive(Drop)]
+#[derive(Clone, Copy)]
 pub enum Alignment {
     Down,
     Negotiate,
@@ -68,14 +68,14 @@ pub enum Alignment {
 }
 
 // The sequence number and the flags of a CA.
-#[derive(Drop)]
+#[derive(Clone, Copy)]
 pub struct CaHead {
     pub number: CaNumber,
     pub flags: CaFlags,
 }
 
 // When something was last done, if it was.
-#[derive(Drop)]
+#[derive(Clone, Copy)]
 pub enum Last {
     Never,
     At(u32),
@@ -83,7 +83,7 @@ pub enum Last {
 
 // The Hello and the alignment machine of a slot, with what their moves go by: the last Hello taken, the CA number, the
 // last CA taken, and whether our last CA said that more follows.
-#[derive(Drop)]
+#[derive(Clone, Copy)]
 pub struct Link {
     pub hello: HelloState,
     pub heard: u32,
@@ -97,7 +97,7 @@ pub struct Link {
 }
 
 // When each kind of packet was last sent to a slot: a Hello since link up, the others since Negotiate began.
-#[derive(Drop)]
+#[derive(Clone, Copy)]
 pub struct Timers {
     pub hello: Last,
     pub ca: Last,

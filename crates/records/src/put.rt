@@ -7,7 +7,7 @@ use protocol::CsaNumber;
 use writer::write::put_record;
 
 // How many records were put, and the place behind them.
-#[derive(Drop)]
+#[derive(Clone, Copy)]
 pub struct Placed {
     pub count: usize,
     pub next: usize,

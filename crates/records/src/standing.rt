@@ -18,7 +18,7 @@ use memory::{rows, store};
 use protocol::CsaNumber;
 
 // The rule that an update record takes. `updateRuleOf` gives the definition of each.
-#[derive(Drop)]
+#[derive(Clone, Copy)]
 pub enum UpdateRule {
     Null,
     PurgeAbsent,

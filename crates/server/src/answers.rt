@@ -14,7 +14,7 @@ use slots::hello;
 use slots::state::Server;
 
 // The server after an event, the answer, and how many octets were written.
-#[derive(Drop)]
+#[derive(Clone, Copy)]
 pub struct Answer {
     pub server: Server,
     pub outcome: Outcome,

@@ -30,7 +30,7 @@ use slots::answers::{Failure, Outcome};
 use slots::state::Server;
 
 // Of the first row that holds an entry: whether there is one, a spent number in it, a purged one, no payload (or no such row).
-#[derive(Drop)]
+#[derive(Clone, Copy)]
 pub struct Own {
     pub held: bool,
     pub spent: bool,

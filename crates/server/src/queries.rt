@@ -54,7 +54,7 @@ pub fn missed_of(slots: &[usize; 200], slot: usize) -> u16
 
 // The state of a slot, and beside it how many update requests were written at polls since it last entered Negotiate, up to 65535, and how many
 // wanted entries found no room (document 02, L1).
-#[derive(Drop)]
+#[derive(Clone, Copy)]
 pub struct SlotState {
     pub hello: HelloState,
     pub alignment: Alignment,
@@ -63,7 +63,7 @@ pub struct SlotState {
     pub missed: u16,
 }
 
-#[derive(Drop)]
+#[derive(Clone, Copy)]
 pub enum Status {
     Refused(Failure),
     Shown(SlotState),

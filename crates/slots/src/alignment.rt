@@ -12,7 +12,7 @@ use crate::hello;
 use protocol::{Alignment, CaHead, CaNumber, Link, Role};
 
 // The rule that a CA takes. `ruleOf` gives the definition of each.
-#[derive(Drop)]
+#[derive(Clone, Copy)]
 pub enum CaRule {
     Refuse,
     BecomeSlave,

@@ -3,7 +3,7 @@ ghost use Rattle.std.specs.Prelude.{◌≡◌, eqb};
 ghost use Rattle.slots.specs.Codes.{failure_number, code_number};
 
 // Why an event is refused. `failureNumber` gives the paper's number of each.
-#[derive(Drop)]
+#[derive(Clone, Copy)]
 pub enum Failure {
     NoPeer,
     TimeBefore,
@@ -25,7 +25,7 @@ pub enum Failure {
     NoEntry,
 }
 
-#[derive(Drop)]
+#[derive(Clone, Copy)]
 pub enum Outcome {
     Taken,
     Refused(Failure),

@@ -13,7 +13,7 @@ use crate::alignment;
 use protocol::{Alignment, CaFlags, CaHead, CaNumber, HelloState, Last, Link, Role, Timers};
 
 // Own ID, the two group numbers, our HelloInterval and DeadFactor.
-#[derive(Drop)]
+#[derive(Clone, Copy)]
 pub struct Settings {
     pub id: [u8; 4],
     pub protocol: u16,
@@ -24,7 +24,7 @@ pub struct Settings {
 
 // A peer slot. `listed` is the row that the next CA answer goes on from, `cursor` the row that the next update request does,
 // `updates` how many update requests were written at polls since the slot last entered Negotiate, up to 65535 (document 02, L1).
-#[derive(Drop)]
+#[derive(Clone, Copy)]
 pub struct Slot {
     pub used: bool,
     pub peer: [u8; 4],
@@ -37,7 +37,7 @@ pub struct Slot {
 }
 
 // The slots are in a lent table, so that no event copies them all.
-#[derive(Drop)]
+#[derive(Clone, Copy)]
 pub struct Server {
     pub settings: Settings,
     pub time: u32,

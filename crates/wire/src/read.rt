@@ -11,7 +11,7 @@ use crate::check;
 use protocol::{CaFlags, CaNumber, Checked, Kind};
 
 // The head of a packet: numbers by value, IDs and records by their places.
-#[derive(Drop)]
+#[derive(Clone, Copy)]
 pub struct Head {
     pub kind: Kind,
     pub protocol: u16,
@@ -23,7 +23,7 @@ pub struct Head {
 }
 
 // Codes 5 to 9; code 10 with the position of the first field that breaks a rule; or the head of the message.
-#[derive(Drop)]
+#[derive(Clone, Copy)]
 pub enum Reading {
     Refused(u8),
     Malformed(usize),

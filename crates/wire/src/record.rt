@@ -8,7 +8,7 @@ ghost use Rattle.protocol.specs.Fields.{field2};
 use protocol::CsaNumber;
 
 // Where the next record or receiver is, and how many are left.
-#[derive(Drop)]
+#[derive(Clone, Copy)]
 pub struct Cursor {
     pub at: usize,
     pub left: usize,

@@ -16,7 +16,7 @@ use octets::{first, put};
 use protocol::{CaFlags, CaNumber, CsaNumber, Kind};
 
 // What every packet says of its group and its two servers.
-#[derive(Drop)]
+#[derive(Clone, Copy)]
 pub struct Common {
     pub protocol: u16,
     pub group: u16,
