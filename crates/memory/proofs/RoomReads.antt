@@ -1,7 +1,7 @@
 -- What the functions on one room and on the list's size answer.
 -- Assumes nothing.
-use Rattle.std.proofs.Common.{◌≡◌, ℕ, ◌+◌, ◌-◌, ◌*◌, ◌/◌, ◌%◌, ◌<◌, ◌≤◌, min, Bool, true, false, ◌&&◌, eqb, List, [], ◌++◌, length, get_or, take, drop, set, replicate, sym, refl, ap, ◌∙◌, subst, inl, append-nil, arith, length-drop, drop_of_length-le, length-take, w32, SFits, eq-eqb, ne_eqb}
-use lib.Seq.{take-length, set-get_or}
+use Rattle.std.proofs.Common.{◌≡◌, ℕ, ◌+◌, ◌-◌, ◌*◌, ◌/◌, ◌%◌, ◌<◌, ◌≤◌, min, Bool, true, false, ◌&&◌, eqb, List, [], ◌++◌, length, get_or, set, sym, refl, ap, ◌∙◌, subst, inl, arith, length-drop, length-take, w32, SFits, eq-eqb, ne_eqb}
+use lib.Seq.{set-get_or}
 use mir.ValLaws.{to_z-of_z}
 use Rattle.laws.specs.Choice.{pick}
 use Rattle.laws.specs.Lists.{part}
@@ -59,12 +59,10 @@ module _ (s : List ℕ) (k i at : ℕ) (place : at ≡ request_place k i) where
     asks_name r e f =
         f ∙ sym (asks_is ∙ ap (λ b. b && same (room_name s at) name) (eq-eqb (octet s (request_tag_place k i)) (tag_of name) (e ∙ own)))
 
-  pub octets_read : (v q : List ℕ) → i < 64 → at + 28 ≤ length s → v ≡ part s at 28 → q ≡ take (length v) v ++ drop (length v) (replicate 28 0)
+  pub octets_read : (v q : List ℕ) → i < 64 → at + 28 ≤ length s → v ≡ part s at 28 → q ≡ v
       → (length q ≡ 28) × (request_of (octet s (request_tag_place k i)) q ≡ get_or (rooms_in s k) i no_request)
-  octets_read v q h fits e f =
-      let n : length v ≡ 28 = ap length e ∙ simp (length-take, length-drop) (omega arith) in
-      let z : 28 ≤ length v = omega arith in
-      let w : q ≡ v = f ∙ (λ j. take-length v j ++ drop_of_length-le (replicate 28 0) z j) ∙ append-nil v in (
+  octets_read v q h fits e w =
+      let n : length v ≡ 28 = ap length e ∙ simp (length-take, length-drop) (omega arith) in (
         ap length w ∙ n,
         ap (request_of (octet s (request_tag_place k i))) (w ∙ e ∙ ap (λ (a : ℕ). part s a 28) place) ∙ request_of_lem s k i ∙ sym (rooms_get s k i h),
       )
