@@ -7,7 +7,6 @@ use lib.Seq.{take-set-lt}
 use Rattle.laws.specs.Choice.{pick}
 use Rattle.laws.specs.Tables.{has, change, without}
 use Rattle.laws.proofs.Lists.{take_taken}
-use Rattle.laws.proofs.Tables.{room}
 use Rattle.protocol.specs.declared.CsaNumber.{CsaNumber}
 use Rattle.protocol.specs.Fields.{octet, field2}
 use Rattle.protocol.specs.Numbers.{newer}

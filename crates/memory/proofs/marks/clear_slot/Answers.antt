@@ -9,10 +9,11 @@ loop-i-init c = (refl, changed_none (unmarked c.args.k) c.args.memory.now)
 pub loop-i-preserved : goal.loop-i-preserved
 loop-i-preserved c =
     let a = c.args in
-    let l = c.loop-i in
-    (omega arith,
+    let l = c.loop-i in (
+      omega arith,
       changed_more (unmarked a.k) a.memory.now l.memory l.i l.invariant.1 c.clear_mark.new.memory
-      c.loop-i-test.true c.clear_mark.ensures)
+          c.loop-i-test.true c.clear_mark.ensures,
+    )
 
 pub returns : goal.returns
 returns c =

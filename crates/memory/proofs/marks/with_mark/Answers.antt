@@ -1,4 +1,4 @@
-use Rattle.std.proofs.Common.{ℕ, ◌+◌, ◌^◌, ◌<◌, true, sym, ap, ◌∙◌, arith}
+use Rattle.std.proofs.Common.{ℕ, ◌+◌, ◌^◌, ◌<◌, sym, ap, ◌∙◌, arith}
 use Rattle.memory.proofs.Bits.{bit_set, bit_room}
 use Rattle.memory.specs.Memory.{is_marked}
 use Rattle.memory.proofs.marks.with_mark.Goals as goal

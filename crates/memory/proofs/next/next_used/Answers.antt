@@ -24,8 +24,8 @@ loop-at-preserved c =
     go_on (λ i. is_used (row_at rows i)) 4 from (next_used rows from) l.rows j.rows l.count j.count l.next
     j.next (64 - l.at) (64 - (l.at + 1)) l.at c.if-count-eq4.false (omega arith) l.invariant
     (elim j.branch [
-      then-is_used w ↦ inl (sym v ∙ w.if-is_used.true, (w.rows-is, (w.count-is, w.next-is)))
-    | else-is_used w ↦ inr (sym v ∙ w.if-is_used.false, (w.rows-is, (w.count-is, w.next-is)))
+      | then-is_used w ↦ inl (sym v ∙ w.if-is_used.true, (w.rows-is, (w.count-is, w.next-is)))
+      | else-is_used w ↦ inr (sym v ∙ w.if-is_used.false, (w.rows-is, (w.count-is, w.next-is)))
     ])
 
 pub returns : goal.returns

@@ -25,8 +25,8 @@ loop-left-preserved c =
       go_on (λ i. waits_for a.k (row_at s (i % 64))) 4 a.from (next_waiting s a.k a.from) l.rows j.rows l.count j.count l.next
           j.next l.left (l.left - 1) l.place c.if-count-eq4.false (omega arith) l.invariant.1
           (elim j.branch [
-            then-waits w ↦ inl (sym v ∙ w.if-waits.true, (w.rows-is, (w.count-is, w.next-is)))
-          | else-waits w ↦ inr (sym v ∙ w.if-waits.false, (w.rows-is, (w.count-is, w.next-is)))
+            | then-waits w ↦ inl (sym v ∙ w.if-waits.true, (w.rows-is, (w.count-is, w.next-is)))
+            | else-waits w ↦ inr (sym v ∙ w.if-waits.false, (w.rows-is, (w.count-is, w.next-is)))
           ]),
     )
 

@@ -10,7 +10,7 @@ abbrev pub invariant-loop-left : goal.invariant-loop-left
 invariant-loop-left l =
     (l.place + l.left ≤ l.from + 64)
     × Gone (λ i. waits_for l.k (row_at (rows_in l.memory) (i % 64))) 4 l.from (next_waiting (rows_in l.memory) l.k l.from)
-        l.rows l.count l.next l.left l.place
+    l.rows l.count l.next l.left l.place
 
 abbrev pub decreases-loop-left : goal.decreases-loop-left
 decreases-loop-left l = l.left

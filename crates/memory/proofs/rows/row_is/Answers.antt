@@ -1,9 +1,7 @@
 -- Another tag, a free row and another name each mean that the row does not hold the entry; else it does.
 use Rattle.std.proofs.Common.{sym, ap, ◌∙◌}
 use Rattle.laws.specs.Tables.{same}
-use Rattle.memory.proofs.RowPlaces.{held_by_name, other_tag, free_row}
-use Rattle.rules.specs.Server.{holds}
-use Rattle.memory.specs.Memory.{entry_named}
+use Rattle.memory.proofs.RowPlaces.{held_by_name, other_tag}
 use Rattle.memory.proofs.rows.row_is.Goals as goal
 
 pub returns-then-memory-i : goal.returns-then-memory-i
