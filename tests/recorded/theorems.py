@@ -14,22 +14,22 @@ EACH = 4          # files to a module
 
 HEAD = """-- Recorded lists of events, evaluated: written by tests/recorded/theorems.py.
 -- Assumes nothing.
-use mathlib.Core.Path.{_≡_, refl}
-use mathlib.Core.List.{[], _∷_}
-use Rattle·protocol.specs.Checksum.{total}
-use Rattle·protocol.specs.Layouts.{recordOctets, recordsOctets, receiversOctets, mandatory, layout, packetOf}
-use Rattle·protocol.specs.Checks.{headCheck, elementCheck, elementsCheck, mandatoryCheck}
-use Rattle·protocol.specs.Answers.{fixedCode}
-use Rattle·protocol.specs.Reading.{recordAt, recordsAt, receiversAt, messageAt, readPacket}
-use Rattle·rules.specs.Rows.{next}
-use Rattle·rules.specs.Events.{codeOf, acted, step, writtenAt}
-use Rattle·protocol.proofs.Worked.{octetsOf}
-use Rattle·rules.specs.Replay.{cut, linesFrom, replay, replayed}
-use Rattle·runs·specs.specs.Recorded.{recordFrom, file, expected}
+use mathlib.Core.Path.{◌≡◌, refl}
+use mathlib.Core.List.{[], ◌∷◌}
+use Rattle.protocol.specs.Checksum.{total}
+use Rattle.protocol.specs.Layouts.{record_octets, records_octets, receivers_octets, mandatory, layout, packet_of}
+use Rattle.protocol.specs.Checks.{head_check, element_check, elements_check, mandatory_check}
+use Rattle.protocol.specs.Answers.{fixed_code}
+use Rattle.protocol.specs.Reading.{record_at, records_at, receivers_at, message_at, read_packet}
+use Rattle.rules.specs.Rows.{next}
+use Rattle.rules.specs.Events.{code_of, acted, step, written_at}
+use Rattle.protocol.proofs.Worked.{octets_of}
+use Rattle.rules.specs.Replay.{cut, lines_from, replay, replayed}
+use Rattle.runs.specs.Recorded.{record_from, file, expected}
 """
-UNFOLD = ("unfolding octetsOf replayed replay linesFrom codeOf acted step writtenAt next total recordOctets recordsOctets receiversOctets "
-          "mandatory layout packetOf headCheck elementCheck elementsCheck mandatoryCheck fixedCode recordAt recordsAt receiversAt "
-          "messageAt readPacket")
+UNFOLD = ("unfolding octets_of replayed replay lines_from code_of acted step written_at next total record_octets records_octets "
+          "receivers_octets mandatory layout packet_of head_check element_check elements_check mandatory_check fixed_code record_at "
+          "records_at receivers_at message_at read_packet")
 
 
 def numeral(b):
@@ -38,9 +38,9 @@ def numeral(b):
 
 def record(r):
     if len(r) < RECORD:
-        return "octetsOf %d %s []" % (len(r), numeral(r))
+        return "octets_of %d %s []" % (len(r), numeral(r))
     short = r.rstrip(b"\0")
-    return "recordFrom %d %s" % (len(short), numeral(short))
+    return "record_from %d %s" % (len(short), numeral(short))
 
 
 def line(text):
@@ -56,7 +56,7 @@ def theorem(name):
     data = open(os.path.join(HERE, name + ".bin"), "rb").read()
     lines = open(os.path.join(HERE, name + ".octets")).read().splitlines()
     records = [data[i:i + RECORD] for i in range(0, len(data), RECORD)]
-    title = name.replace("_", "-")
+    title = name.replace("-", "_")
     return "\n%s : replayed (file (%s [])) ≡ %s []\n%s\n%s = refl\n" % (
         title, " ".join(record(r) + " ∷" for r in records), " ".join(line(t) + " ∷" for t in lines), UNFOLD, title)
 

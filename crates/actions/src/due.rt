@@ -26,7 +26,7 @@ const CA_INTERVAL: u32 = 5;
 
 const UPDATE_INTERVAL: u32 = 1;
 
-// What a poll sends. `dueKind` gives the definition of each.
+// What a poll sends. `due_kind` gives the definition of each.
 #[derive(Clone, Copy)]
 pub enum Due {
     Nothing,

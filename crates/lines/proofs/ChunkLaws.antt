@@ -164,7 +164,7 @@ module _ {input slots slots' before after text text' : List ℕ} {a : Answer} {n
   pub opens_cut : starts_good input ≡ false → Put cut_text 0 text text' n → Opens input slots slots' before after text text' (record { answer = a; text = n })
   opens_cut g p = record { begins = b; prints = record { octets = cut_text; means = λ k e. first_means input false g cut_text refl; put = p } }
 
--- ---- a whole input is the lines of its chunks: `linesIn` of its end is the rules' `lines_from`, and goes on where a chunk before it stopped
+-- ---- a whole input is the lines of its chunks: `lines_in` of its end is the rules' `lines_from`, and goes on where a chunk before it stopped
 pub ends_lines : (n k : ℕ) (s : rules.Server) (input : List ℕ) → lines_in true n k s input ≡ lines_from n k s input
 unfolding lines_in lines_from
 ends_lines zero k s input = by (is_empty input) where

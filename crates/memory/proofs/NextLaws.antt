@@ -12,7 +12,7 @@ use Rattle.memory.specs.Memory.{rows_in}
 use Rattle.memory.specs.declared.next.Picks.{Picks}
 use Rattle.memory.specs.Marks.{picks_of, Picked, is_picked}
 
--- the place that `reached-or-nearer` speaks of is row i
+-- the place that `reached_or_nearer` speaks of is row i
 more_by : (a b x y : Bool) → (a ≡ true → x ≡ true) → (b ≡ true → y ≡ true) → (a || b) ≡ true → (x || y) ≡ true
 more_by true b x y f g h = rw (f refl)
 more_by false b x y f g h = or_right x y (g h)

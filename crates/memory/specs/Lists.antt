@@ -55,7 +55,7 @@ pub record Joins (k : ℕ) (e : Entry) (n : CsaNumber) (missed : ℕ) (before af
   pub count : r ≡ (join e n (wanted_now k missed before)).missed
   pub kept : has (asks e) (requests_of (memory_of before) k) ≡ false → nat_lt (length (requests_of (memory_of before) k)) requests_most ≡ false → after ≡ before
 
--- the list and the missed count after a summary of the entry: as `takenIn` of the rules, for a record of this key, originator and number
+-- the list and the missed count after a summary of the entry: as `taken_in` of the rules, for a record of this key, originator and number
 abbrev pub wanted_after : ℕ → Entry → CsaNumber → ℕ → List ℕ → Wanted
 wanted_after k e n missed s = pick (up_to_date n (entry_row e (rows_in s))) (wanted_now k missed s) (join e n (wanted_now k missed s))
 

@@ -1,4 +1,4 @@
--- Document 01, 'Sizes'. The ID length is a parameter `w` of every rule on records and layouts; `idLength` is its value.
+-- Document 01, 'Sizes'. The ID length is a parameter `w` of every rule on records and layouts; `id_length` is its value.
 -- Assumes nothing.
 use Rattle.std.specs.Prelude.{ℕ, ◌+◌, ◌*◌}
 

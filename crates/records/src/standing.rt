@@ -17,7 +17,7 @@ use memory::rows::Found;
 use memory::{rows, store};
 use protocol::CsaNumber;
 
-// The rule that an update record takes. `updateRuleOf` gives the definition of each.
+// The rule that an update record takes. `update_rule_of` gives the definition of each.
 #[derive(Clone, Copy)]
 pub enum UpdateRule {
     Null,

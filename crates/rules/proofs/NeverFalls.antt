@@ -1,4 +1,4 @@
--- Demand 3, `never-falls` and `keeps-row`: an entry stays in its row until its purge frees it, and its number does not fall meanwhile.
+-- Demand 3, `never_falls` and `keeps_row`: an entry stays in its row until its purge frees it, and its number does not fall meanwhile.
 -- Assumes nothing.
 use Prim.Native.Nat.{ℕ}
 use mathlib.Core.Path.{◌≡◌, refl, sym, ◌∙◌}

@@ -37,7 +37,7 @@ server_of s slots memory = record {
 
 -- ---- what an event does: the code, the server, its slots and its memory are those of the step, and a refusal leaves all of them as they
 -- came, but for the malformed Hello. After an event that counts each word and octet is the program's choice, and every choice has its
--- meaning in common: `serverOf`.
+-- meaning in common: `server_of`.
 pub record Steps (e : Event) (s : Server) (slots slots' before after : List ℕ) (r : Answer) : Type 0 where
   pub code : code_number r.outcome ≡ code_of (server_of s slots before) e
   pub server : server_of r.server slots' after ≡ step (server_of s slots before) e

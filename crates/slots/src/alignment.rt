@@ -11,7 +11,7 @@ ghost use Rattle.slots.specs.State.{rule_of, ca_in};
 use crate::hello;
 use protocol::{Alignment, CaHead, CaNumber, Link, Role};
 
-// The rule that a CA takes. `ruleOf` gives the definition of each.
+// The rule that a CA takes. `rule_of` gives the definition of each.
 #[derive(Clone, Copy)]
 pub enum CaRule {
     Refuse,

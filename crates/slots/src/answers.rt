@@ -2,7 +2,7 @@
 ghost use Rattle.std.specs.Prelude.{◌≡◌, eqb};
 ghost use Rattle.slots.specs.Codes.{failure_number, code_number};
 
-// Why an event is refused. `failureNumber` gives the paper's number of each.
+// Why an event is refused. `failure_number` gives the paper's number of each.
 #[derive(Clone, Copy)]
 pub enum Failure {
     NoPeer,
