@@ -90,7 +90,8 @@ module _ (k : Kind) (p : List ℕ) where
       go Hello h = absurd (false≢true (sym h))
 
   step : (left at : ℕ) → 0 < left
-      → elements_check id_length k p left at ≡ and_then (element_check id_length k p at) (elements_check id_length k p (left - 1) (at + element_size id_length k p at))
+      → elements_check id_length k p left at
+      ≡ and_then (element_check id_length k p at) (elements_check id_length k p (left - 1) (at + element_size id_length k p at))
   unfolding elements_check
   step zero at h = absurd (not-suc-le-zero h)
   step (suc n) at h =

@@ -121,7 +121,8 @@ laid m l =
 
 module _ (c : Common) (widths : (length c.sender ≡ 4) × (length c.receiver ≡ 4)) where
   packet_of_lem : (receiver : List ℕ) (len : ℕ) (b : Body) → receiver ≡ take len c.receiver → length receiver ≡ len
-      → packet_of (message_from c receiver b) ≡ sealed (kind_of_body b) ((before_common zeros b ++ common_part c (flags_of b) len (count_of b)) ++ elements zeros b)
+      → packet_of (message_from c receiver b)
+      ≡ sealed (kind_of_body b) ((before_common zeros b ++ common_part c (flags_of b) len (count_of b)) ++ elements zeros b)
   unfolding packet_of layout sealed common_part
   packet_of_lem receiver len b r e =
       ap (sealed (kind_of_body b)) (laid (message_from c receiver b) widths.0
