@@ -130,7 +130,8 @@ module _ (k : ℕ) (slot : rules.Slot) (before after : List ℕ) (x : Slot) wher
       → slot_of x (requests_of (memory_of before) k) p ≡ slot → Leaves k slot rows before after x
   leaves_rows_kept rows p e f =
       leaves_parts rows (requests_of (memory_of before) k) p
-      (e ∙ ap (λ (l : List (List Request)). with_rows rows (kept_put k p (record { rows = (memory_of before).rows; requests = l; kept = (memory_of before).kept })))
+      (e ∙ ap (λ (l : List (List Request)).
+      with_rows rows (kept_put k p (record { rows = (memory_of before).rows; requests = l; kept = (memory_of before).kept })))
       (sym (set-get_or (memory_of before).requests k []))) f
 
   pub leaves_kept : (p : List ℕ) → memory_of after ≡ kept_put k p (memory_of before)

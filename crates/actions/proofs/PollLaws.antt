@@ -148,7 +148,8 @@ module _ (s : rules.Settings) (now k : ℕ) (t₀ t₁ t₂ m₀ m₁ m₂ m₃ 
       let g = same s now k rows slot in
       let to : due_slot (due_kind d.due) s now (rows_in m₂) k (slot_now t₁ k m₂) ≡ poll_slot s now rows k slot = (λ i. due_slot (due i) s now (r₂ i) k (y₂ i))
       ∙ g.0 in
-      let what : due_sent (due_kind d.due) s (rows_in m₂) k (slot_now t₁ k m₂) ≡ poll_sent s now rows k slot = (λ i. due_sent (due i) s (r₂ i) k (y₂ i)) ∙ g.1 in
+      let what : due_sent (due_kind d.due) s (rows_in m₂) k (slot_now t₁ k m₂) ≡ poll_sent s now rows k slot =
+      (λ i. due_sent (due i) s (r₂ i) k (y₂ i)) ∙ g.1 in
       let cleared = ap (λ (l : Link). cleared_if (enters slot.link.alignment l.alignment) k rows) (sym (poll_link s now k rows slot)) in
       record {
         acts = record {

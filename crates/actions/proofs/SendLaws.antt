@@ -59,7 +59,8 @@ module _ (s : Settings) (x : Slot) (k : ℕ) (m : List ℕ) (c : Common) (e : c 
   csus_is h = λ i. packet_of (our_message (e i) (csus (map request_record (take 4 (sym (requests_of_lem m k h) i)))))
 
   pub update_is : (p : Picks) → Picked x.cursor (next_waiting (rows_in m) k x.cursor) p
-      → packet_of (our_message c (csu_request (rows_of held_record (rows_in m) (picks_of p)))) ≡ packet_of (update_of (settings_of s) (rows_in m) k (slot_with x k m))
+      → packet_of (our_message c (csu_request (rows_of held_record (rows_in m) (picks_of p))))
+      ≡ packet_of (update_of (settings_of s) (rows_in m) k (slot_with x k m))
   update_is p h = λ i. packet_of (our_message (e i) (csu_request (rows_of held_record (rows_in m) (h.chosen i))))
 
 pub no_picks_fit : (p : Picks) → p ≡ no_picks → (p.count ≤ 4) × (length p.rows ≡ 4)
@@ -129,7 +130,8 @@ module _ (d : Due) (time : ℕ) (p : Picks) (k : ℕ) (t t' : List ℕ) where
   pub put_csus : d ≡ Csus → Changes k (csus_sent time) t t' → PutsDue (due_kind d) time p k t t'
   put_csus q h = put_as Csus q (record { slot = λ s rows j qs kept n. h.slot (rotated qs) kept; others = h.others })
 
-  pub put_update : d ≡ Update → Changes k (λ x. update_counted (update_sent time (with_cursor (p.next % rows_most) x))) t t' → PutsDue (due_kind d) time p k t t'
+  pub put_update : d ≡ Update → Changes k (λ x. update_counted (update_sent time (with_cursor (p.next % rows_most) x))) t t'
+      → PutsDue (due_kind d) time p k t t'
   put_update q h =
       put_as Update q
       (record {
@@ -154,8 +156,8 @@ onward Update k x m p g e = g.onward
 
 module _ (d : Due) (k time : ℕ) (s : rules.Settings) (p : Picks) (t t' m m' out out' : List ℕ) (n : ℕ) where
   pub sends : GoodPicks d k (slot_in t k) m p → WritesDue (due_kind d) k s (slot_in t k) m m' out out' n → PutsDue (due_kind d) time p k t t'
-      → ActsAt k (due_slot (due_kind d) s time (rows_in m) k (slot_now t k m)) (rows_in m) (octets_of (due_sent (due_kind d) s (rows_in m) k (slot_now t k m))) t t' m
-      m' out out' n
+      → ActsAt k (due_slot (due_kind d) s time (rows_in m) k (slot_now t k m)) (rows_in m)
+      (octets_of (due_sent (due_kind d) s (rows_in m) k (slot_now t k m))) t t' m m' out out' n
   sends g w h =
       let z : rules.Slot = due_slot (due_kind d) s time (rows_in m) k (slot_now t k m) in
       record {

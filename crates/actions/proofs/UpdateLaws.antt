@@ -11,7 +11,8 @@ use Rattle.laws.specs.Lists.{is_empty}
 use Rattle.protocol.specs.Messages.{CsaRecord, summary_of, csu_request, csu_reply}
 use Rattle.protocol.specs.Layouts.{packet_of}
 use Rattle.rules.specs.Server.{Row, Request}
-use Rattle.rules.specs.Updates.{UpdateRule, update_rule, rows_by, requests_by, is_acknowledged, Updated, all_updated, solicited, all_solicited, all_answers_wait}
+use Rattle.rules.specs.Updates.{UpdateRule, update_rule, rows_by, requests_by, is_acknowledged, Updated}
+use Rattle.rules.specs.Updates.{all_updated, solicited, all_solicited, all_answers_wait}
 use Rattle.rules.specs.Links.{with_alignment}
 use Rattle.rules.specs.Slots.{with_link, aligned_if, completed, with_kept}
 use Rattle.rules.specs.Sent.{octets_of}
@@ -54,7 +55,8 @@ module _ (live : ℕ → Bool) (k : ℕ) (rs : List CsaRecord) (before after : L
   now_updated : Updated
   now_updated = all_updated live k rs (updated_now k [] before)
 
-  same_parts : (now_updated.rows ≡ (updated_by live k rs (rows_in before) []).rows) × (now_updated.replies ≡ (updated_by live k rs (rows_in before) []).replies)
+  same_parts : (now_updated.rows ≡ (updated_by live k rs (rows_in before) []).rows)
+      × (now_updated.replies ≡ (updated_by live k rs (rows_in before) []).replies)
   unfolding now_updated
   same_parts = apart live k rs (rows_in before) [] (requests_of (memory_of before) k) []
 
@@ -62,8 +64,8 @@ module _ (live : ℕ → Bool) (k : ℕ) (rs : List CsaRecord) (before after : L
   reply_wrote : (s : Settings) (x : Slot) (c : Common) (to : Placed) (out mid out' : List ℕ) (n : ℕ) → 284 ≤ length out → c ≡ common_of s x.peer
       → Places 32 (map summary_of (all_updated live k rs (updated_now k [] before)).replies) 28 out mid to × (to.count ≤ 4)
       → WritesSome csu_reply c to.count to.next mid out' n
-      → Wrote (octets_of (unless_empty (settings_of s) (slot_with x k before) csu_reply (map summary_of (updated_by live k rs (rows_in before) []).replies))) out
-      out' n
+      → Wrote (octets_of (unless_empty (settings_of s) (slot_with x k before) csu_reply
+      (map summary_of (updated_by live k rs (rows_in before) []).replies))) out out' n
   unfolding now_updated
   reply_wrote s x c to out mid out' n long e p w =
       let old : List CsaRecord = map summary_of now_updated.replies in

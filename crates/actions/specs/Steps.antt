@@ -112,8 +112,8 @@ TakesRequest live k s rs slots slots' before after out out' n =
 abbrev pub TakesCsus : ℕ → rules.Settings → List CsaRecord → List ℕ → List ℕ → List ℕ → List ℕ → List ℕ → ℕ → Type 0
 TakesCsus k s rs t before after out out' n =
     let y = slot_now t k before in
-    ActsAt k (slots.with_kept [] y) (all_answers_wait k rs (rows_in before)) (octets_of (unless_empty s y csu_request (all_solicited (rows_in before) rs))) t t before
-    after out out' n
+    ActsAt k (slots.with_kept [] y) (all_answers_wait k rs (rows_in before))
+    (octets_of (unless_empty s y csu_request (all_solicited (rows_in before) rs))) t t before after out out' n
 
 -- ---- a poll
 abbrev pub due_kind : Due → poll.Due

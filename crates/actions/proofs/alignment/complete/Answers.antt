@@ -1,0 +1,6 @@
+use Rattle.actions.proofs.AlignmentLaws.{completes}
+use Rattle.actions.proofs.alignment.complete.Goals as goal
+
+pub returns : goal.returns
+returns c =
+    completes c.args.memory.now c.args.k c.count.result c.args.x c.completed.result c.requires.1 c.count.ensures.0 c.completed.ensures

@@ -1,0 +1,8 @@
+use Rattle.memory.specs.Memory.{memory_of, requests_of, kept_of}
+use Rattle.actions.proofs.AlignmentLaws.{kept_wrote}
+use Rattle.actions.proofs.alignment.repeat.Goals as goal
+
+pub returns : goal.returns
+returns c =
+    let m = memory_of c.args.memory.now in
+    (c.ca_sent-slot.ensures (requests_of m c.args.k) (kept_of m c.args.k), kept_wrote c.copy_kept-n.ensures)
