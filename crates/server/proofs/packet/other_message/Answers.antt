@@ -1,0 +1,32 @@
+-- The slot's state decides code 14; taken, the event ends with the slot as `act` left it.
+use Rattle.std.proofs.Common.{sym}
+use Rattle.server.proofs.PacketLaws.{message_refused, message_taken}
+use Rattle.actions.specs.Parts.{slot_now}
+use Rattle.slots.specs.State.{settings_of}
+use Rattle.wire.specs.Views.{message_of}
+use Rattle.server.proofs.packet.other_message.Goals as goal
+
+pub returns-in-Refused : goal.returns-in-Refused
+returns-in-Refused c =
+    let a = c.args in
+    let q = c.requires in
+    let x = slot_now a.slots.now a.k a.memory.now in
+    let code = c.message_code.ensures x (sym c.peer_at-peer.ensures)
+    (c.unusable.ensures (settings_of a.s.settings) a.p.now x q.1.1.1 (sym c.alignment_at-from.ensures)) in
+    message_refused a.p.now a.k a.time a.s a.slots.now a.memory.now q.1.0.0 (message_of a.p.now a.h)
+    c.message_code.result code c.in-Refused.f c.refuse.result a.out.now c.in-Refused.is c.refuse.ensures
+
+pub returns-in-Taken : goal.returns-in-Taken
+returns-in-Taken c =
+    let a = c.args in
+    let q = c.requires in
+    let x = slot_now a.slots.now a.k a.memory.now in
+    let t = c.act-n in
+    let d = c.taken in
+    let from = c.alignment_at-from in
+    let code = c.message_code.ensures x (sym c.peer_at-peer.ensures)
+    (c.unusable.ensures (settings_of a.s.settings) a.p.now x q.1.1.1 (sym from.ensures)) in
+    message_taken a.p.now a.k a.time a.s a.slots.now a.memory.now q.1.0.0 (message_of a.p.now a.h)
+    c.message_code.result code t.new.slots t.new.memory d.new.memory a.out.now t.new.out
+    c.changes_rows.result from.result t.result d.result c.in-Taken.is
+    (c.changes_rows.ensures a.p.now) from.ensures t.ensures d.ensures.0 d.ensures.1

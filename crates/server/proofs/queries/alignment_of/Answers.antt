@@ -1,0 +1,6 @@
+use Rattle.std.proofs.Common.{ap}
+use Rattle.rules.specs.Server as rules
+use Rattle.server.proofs.queries.alignment_of.Goals as goal
+
+pub returns : goal.returns
+returns c s m = ap (λ (x : rules.Slot). x.link.alignment) (c.slot_of-x.ensures s m)
