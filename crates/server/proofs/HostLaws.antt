@@ -7,7 +7,6 @@ use mathlib.Core.List.{List, [], ◌∷◌, ◌++◌}
 use mathlib.Core.Logic.{◌⊎◌}
 use lib.ListN.{take}
 use Rattle.laws.specs.Lists.{All}
-use Rattle.laws.specs.Puts.{written}
 use Rattle.laws.proofs.Puts.{take_written}
 use Rattle.laws.proofs.Each.{all_append}
 use Rattle.rules.specs.Server as rules
@@ -69,7 +68,8 @@ seen_out : {e : Event} {s : Server} {slots slots' before after out out' : List �
 seen_out {e} {s} {slots} {slots'} {before} {after} {out} {out'} {r} d =
     ap (take r.written) d.octets ∙ take_written (written_at (server_of s slots before) e) out r.written d.steps.size
 
-item_of_lem : (x : rules.Server) (e : Event) (c : ℕ) (w : List ℕ) → c ≡ code_of x e → w ≡ written_at x e → record { event = e; code = c; written = w } ≡ item_of x e
+item_of_lem : (x : rules.Server) (e : Event) (c : ℕ) (w : List ℕ) → c ≡ code_of x e → w ≡ written_at x e
+    → record { event = e; code = c; written = w } ≡ item_of x e
 item_of_lem x e c w p q = λ i. record { event = e; code = p i; written = q i }
 
 -- so a call is one more item

@@ -83,7 +83,8 @@ module _ (k : ℕ) (t before : List ℕ) where
   up_still d = (up_stays k (slot_in t k) before d, λ j q. refl)
 
 -- ---- the whole, of an event in a slot that writes nothing
-pub does_silent : (e : Event) (s : Server) (slots slots' : List ℕ) (k now : ℕ) (before mid after : List ℕ) (o : Outcome) (from : Alignment) (r : Answer) → k < 8
+pub does_silent : (e : Event) (s : Server) (slots slots' : List ℕ) (k now : ℕ) (before mid after : List ℕ) (o : Outcome) (from : Alignment) (r : Answer)
+    → k < 8
     → place_of e ≡ in_slot k → empties_in e ≡ in_slot k → now ≡ time_after e s.time → octets_of (sent_by (server_of s slots before) e) ≡ []
     → code_number o ≡ code_of (server_of s slots before) e → o ≡ Taken → from ≡ (slot_in slots k).link.alignment
     → ((j : ℕ) → (j ≡ k → ⊥) → slot_in slots' j ≡ slot_in slots j) → LeavesBy e s slots k (slot_in slots k) before mid (slot_in slots' k)

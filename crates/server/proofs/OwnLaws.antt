@@ -213,7 +213,8 @@ module _ (s : Server) (slots before after key : List ℕ) (o : Outcome) (r : Ans
       own_does (events.set key p) (swept (set_rows live our p (rows_in before))) c
       (m ∙ ap (λ (y : Entry). rows_as (λ rows. swept (set_rows live y p rows)) before) e) refl refl
 
-  pub withdraw_does : code_number o ≡ withdraw_code (server_of s slots before) key → memory_of after ≡ rows_as (λ rows. swept (withdraw_rows live our rows)) before
+  pub withdraw_does : code_number o ≡ withdraw_code (server_of s slots before) key
+      → memory_of after ≡ rows_as (λ rows. swept (withdraw_rows live our rows)) before
       → Steps (events.withdraw key) s slots slots before after r
   unfolding code_of acted
   withdraw_does c m = own_does (events.withdraw key) (swept (withdraw_rows live our (rows_in before))) c m refl refl

@@ -19,7 +19,8 @@ use Rattle.rules.specs.Server as rules
 use Rattle.rules.specs.Server.{fresh_slot, Row, slot_at}
 use Rattle.rules.specs.Links.{enters}
 use Rattle.rules.specs.Rows.{cleared_if, swept_if}
-use Rattle.rules.specs.Events.{Event, in_slot, place_of, live_in, slot_after, slots_after, rows_changed, empties_in, enters_at, cleared, changes_rows, time_after, acted}
+use Rattle.rules.specs.Events.{Event, in_slot, place_of, live_in, slot_after, slots_after, rows_changed, empties_in, enters_at}
+use Rattle.rules.specs.Events.{cleared, changes_rows, time_after, acted}
 use Rattle.memory.specs.Memory.{rows_in, Memory, memory_of, with_rows, requests_of, kept_of}
 use Rattle.records.proofs.MemoryLaws.{rows_are}
 use Rattle.slots.specs.declared.state.Slot.{Slot}

@@ -35,9 +35,11 @@ pub set_named-requires : goal.set_named-requires
 set_named-requires c =
     let first = c.first-octets in
     let size = ap length first.ensures in
-    let named = c.own_name-name.ensures.1 in
-    (c.requires, named_room first.result.now c.args.payload.now (omega (arith, size, named), omega (arith, size, named))
-    (sym c.payload_good.ensures ∙ c.if-not-payload_good.false))
+    let named = c.own_name-name.ensures.1 in (
+      c.requires,
+      named_room first.result.now c.args.payload.now (omega (arith, size, named), omega (arith, size, named))
+          (sym c.payload_good.ensures ∙ c.if-not-payload_good.false),
+    )
 
 pub returns : goal.returns
 returns c =

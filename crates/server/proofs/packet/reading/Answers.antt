@@ -11,11 +11,14 @@ use Rattle.server.proofs.packet.reading.Goals as goal
 
 pub message-requires : goal.message-requires
 message-requires c =
-    let a = c.args in
-    (c.requires.0,
-    (c.requires.1,
-    reaches a.p.now c.read.result c.in-Packet.h
-    (λ i. omega (arith, c.type_inv.p i)) c.read.ensures c.in-Packet.is))
+    let a = c.args in (
+      c.requires.0,
+      (
+        c.requires.1,
+        reaches a.p.now c.read.result c.in-Packet.h
+            (λ i. omega (arith, c.type_inv.p i)) c.read.ensures c.in-Packet.is,
+      ),
+    )
 
 pub returns-in-Refused : goal.returns-in-Refused
 returns-in-Refused c =

@@ -8,10 +8,11 @@ use Rattle.server.proofs.peers.add_peer.Goals as goal
 
 pub add_taken-server-requires : goal.add_taken-server-requires
 add_taken-server-requires c =
-    let a = c.args in
-    (search rules,
-    add_taken (server_of a.s a.slots.now a.memory.now) a.k a.id.now c.add_code.result
-    (c.add_code.ensures a.memory.now) c.in-Taken.is)
+    let a = c.args in (
+      search rules,
+      add_taken (server_of a.s a.slots.now a.memory.now) a.k a.id.now c.add_code.result
+          (c.add_code.ensures a.memory.now) c.in-Taken.is,
+    )
 
 pub returns-in-Refused : goal.returns-in-Refused
 unfolding code_of

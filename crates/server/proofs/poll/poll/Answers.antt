@@ -7,10 +7,11 @@ use Rattle.server.proofs.poll.poll.Goals as goal
 
 pub poll_taken-requires : goal.poll_taken-requires
 poll_taken-requires c =
-    let a = c.args in
-    (c.requires,
-    poll_taken (server_of a.s a.slots.now a.memory.now) a.k a.time (length a.out.now) c.poll_code.result
-    (c.poll_code.ensures a.memory.now) c.in-Taken.is)
+    let a = c.args in (
+      c.requires,
+      poll_taken (server_of a.s a.slots.now a.memory.now) a.k a.time (length a.out.now) c.poll_code.result
+          (c.poll_code.ensures a.memory.now) c.in-Taken.is,
+    )
 
 pub returns-in-Refused : goal.returns-in-Refused
 returns-in-Refused c =

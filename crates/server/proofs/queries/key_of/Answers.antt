@@ -13,4 +13,4 @@ pub returns-then-is_used : goal.returns-then-is_used
 returns-then-is_used c =
     c.key_of.ensures
     ∙ ap (λ (r : Row). (entry_shown r).key)
-        (row_used c.args.memory.now c.args.row c.is_used.result c.is_used.ensures c.if-is_used.true)
+    (row_used c.args.memory.now c.args.row c.is_used.result c.is_used.ensures c.if-is_used.true)

@@ -13,4 +13,4 @@ pub returns-then-is_used : goal.returns-then-is_used
 returns-then-is_used c =
     c.payload_of.ensures.0
     ∙ ap (λ (r : Row). (value_shown r).payload)
-        (row_used c.args.memory.now c.args.row c.is_used.result c.is_used.ensures c.if-is_used.true)
+    (row_used c.args.memory.now c.args.row c.is_used.result c.is_used.ensures c.if-is_used.true)
