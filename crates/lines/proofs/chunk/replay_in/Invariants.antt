@@ -11,7 +11,7 @@ invariant-loop-left l =
     let i = l.initial in
     (length l.text ≡ 20480) × (i.left ≤ 224) × (l.at + 292 * l.left ≤ length l.input)
     × Said (ends_with l.last l.input) l.input i.left l.number (server_of i.x i.slots i.memory) i.text (server_of l.x l.slots l.memory) l.at l.left
-        l.k l.end l.text
+    l.k l.end l.text
     × Went l.input 0 i.left i.x i.slots i.memory l.at l.left l.x l.slots l.memory
 
 abbrev pub decreases-loop-left : goal.decreases-loop-left
