@@ -9,7 +9,6 @@ use Rattle.laws.specs.Puts.{written}
 use Rattle.protocol.specs.Sizes.{id_length}
 use Rattle.rules.specs.Server as rules
 use Rattle.rules.specs.Server.{rows_used, settings_code, fresh}
-use Rattle.rules.specs.Sent.{nothing}
 use Rattle.rules.specs.Events.{Event, add_peer, link_up, link_down, packet, poll, set, withdraw, purge, code_of, counts}
 use Rattle.rules.specs.Replay.{kind_at, slot_octet, time_at, settings_in, packet_in, key_in, payload_in, RecordKind, an_event, other, record_kind, starts_good}
 use Rattle.slots.specs.declared.state.Settings.{Settings}

@@ -1,4 +1,4 @@
--- The digits from the last to the first; the loop keeps the number that is left.
+-- There are at most 20 digits, so they and the octet behind them fit.
 use Rattle.std.proofs.Common.{◌≤◌, length, take, arith}
 use Rattle.lines.proofs.TextLaws.{few_digits, number_put}
 use Rattle.lines.proofs.text.put_long.Goals as goal

@@ -1,4 +1,4 @@
-use Rattle.std.proofs.Common.{◌-◌, ◌%◌, sym, ◌∙◌, inl, inr, arith}
+use Rattle.std.proofs.Common.{◌-◌, ◌%◌, refl, sym, ◌∙◌, inl, inr, arith}
 use Rattle.memory.proofs.Picking.{go_on, picked_full, picked_end}
 use Rattle.memory.specs.Memory.{rows_in}
 use Rattle.rules.specs.Rows.{next_waiting}
@@ -13,6 +13,9 @@ returns-then-count-eq4 c =
     let s = rows_in a.memory.now in
     picked_full (λ i. waits_for a.k (row_at s (i % 64))) a.from (next_waiting s a.k a.from) l.rows l.count l.next l.left l.place
     c.if-count-eq4.true l.invariant.1
+
+pub loop-left-init : goal.loop-left-init
+loop-left-init c = (omega arith, record { few = omega arith; full = refl; going = refl; last = refl })
 
 pub loop-left-preserved : goal.loop-left-preserved
 loop-left-preserved c =
