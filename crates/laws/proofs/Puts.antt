@@ -1,12 +1,12 @@
 -- Laws of octets put into a list.
 -- Assumes nothing.
 use Prim.Native.Nat.{ℕ, ◌+◌, ◌-◌, ◌≤◌, ◌<◌}
-use mathlib.Core.Path.{◌≡◌, sym, ap, ◌∙◌, subst}
-use mathlib.Core.List.{List, [], append_assoc, ◌++◌}
+use mathlib.Core.Path.{◌≡◌, refl, sym, ap, ◌∙◌, subst}
+use mathlib.Core.List.{List, [], append-nil, append_assoc, ◌++◌}
 use native.Mathlib.Omega.{arith}
-use lib.ListN.{length, take, drop, set, length-drop, length-append, length-set, take-append-drop}
-use lib.Seq.{take_at, drop_at, drop-drop, length-take-le, set-append_left}
-use borrow.Rule.Slice.PartMut.{post_of, put_mid, Post-is}
+use lib.ListN.{length, take, drop, set, drop_of_length-le, length-drop, length-append, length-set, take-append-drop}
+use lib.Seq.{take_all, take_at, drop_at, drop-drop, length-take-le, set-append_left}
+use borrow.Rule.Slice.PartMut.{mid_of, post_of, put_mid, mid_len, Post-is}
 use Rattle.laws.specs.Puts.{put_at, written, Put}
 
 -- v put over the part of b from `at` up to e

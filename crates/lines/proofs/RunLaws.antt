@@ -1,6 +1,7 @@
 -- A whole slice of records.
 -- Assumes nothing.
-use Rattle.std.proofs.Common.{◌≡◌, ℕ, suc, ◌+◌, ◌-◌, ◌/◌, ◌≤◌, Bool, true, false, ◌&&◌, eqb, leb, List, [], ◌++◌, length, drop, sym, refl, ap, ◌∙◌, subst, append_assoc, append-nil, arith, length-drop, drop-drop, eqb-true, leb-true}
+use Rattle.std.proofs.Common.{◌≡◌, ℕ, suc, ◌+◌, ◌-◌, ◌/◌, ◌≤◌, Bool, true, false, ◌&&◌, eqb, leb, List, [], ◌++◌, length, drop, sym, refl, ap, ◌∙◌, subst}
+use Rattle.std.proofs.Common.{append_assoc, append-nil, arith, length-drop, drop-drop, eqb-true, leb-true}
 use mathlib.Core.Bool.{false≢true}
 use Rattle.laws.specs.Choice.{pick}
 use Rattle.laws.specs.Lists.{part}
@@ -47,7 +48,8 @@ module _ {input : List ℕ} {from n : ℕ} {s₀ : Server} {slots₀ memory₀ :
     (w : Went input from n s₀ slots₀ memory₀ at left s slots memory) where
   pub went_more : (first : List ℕ) (less : ℕ) (t : Server) (slots' memory' : List ℕ) → first ≡ part input at 292 → left ≡ suc less
       → server_of t slots' memory' ≡ server_after (record_kind first) (server_of s slots memory)
-      → ((c : Settings) (is : List Item) → Hosted c s slots memory is → Hosted c t slots' memory' (is ++ items_of (record_kind first) (server_of s slots memory)))
+      → ((c : Settings) (is : List Item) → Hosted c s slots memory is → Hosted c t slots' memory' (is ++ items_of
+      (record_kind first) (server_of s slots memory)))
       → Went input from n s₀ slots₀ memory₀ (at + 292) less t slots' memory'
   unfolding events_from
   went_more first less t slots' memory' f e after h =

@@ -1,6 +1,7 @@
 -- Lines as text.
 -- Assumes nothing.
-use Rattle.std.proofs.Common.{◌≡◌, ℕ, ◌+◌, ◌-◌, ◌/◌, ◌%◌, ◌^◌, ◌<◌, ◌≤◌, Bool, true, false, cond, leb, List, [], ◌∷◌, ◌++◌, length, take, drop, set, sym, refl, ap, ◌∙◌, add-one, arith, lt-ltb, leb-false, leb-true}
+use Rattle.std.proofs.Common.{◌≡◌, ℕ, ◌+◌, ◌-◌, ◌/◌, ◌%◌, ◌^◌, ◌<◌, ◌≤◌, Bool, true, false, cond, leb, List, [], ◌∷◌, ◌++◌, length, take, drop, set, sym}
+use Rattle.std.proofs.Common.{refl, ap, ◌∙◌, add-one, arith, lt-ltb, leb-false, leb-true}
 use native.Mathlib.Nat.{pow-le-pow_right}
 use lib.Seq.{set_split}
 use Rattle.laws.specs.Puts.{put_at, Put}
@@ -26,7 +27,8 @@ pub few_digits : (n k : ℕ) → n < 18446744073709551616 → IsDigitCount 10 1 
 few_digits n k = few_if n k (leb k 20) refl
 
 -- the digits put, and the octet behind them
-pub number_put : (n behind at k : ℕ) (v before mid : List ℕ) (end : ℕ) → at + 21 ≤ length before → length v ≤ 20 → IsDigitCount 10 1 n k → v ≡ last_digits 10 k n
+pub number_put : (n behind at k : ℕ) (v before mid : List ℕ) (end : ℕ) → at + 21 ≤ length before → length v ≤ 20 →
+    IsDigitCount 10 1 n k → v ≡ last_digits 10 k n
     → Put v at before mid end → (PutsNumber n behind at before (set mid end behind) (end + 1)) × (end + 1 ≤ at + 21)
 number_put n behind at k v before mid end room few f e p =
     let m : length mid ≡ length before = ap length p.octets ∙ put_length before at v (omega arith) in

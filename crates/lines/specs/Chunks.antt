@@ -30,7 +30,8 @@ records_in input = pick (nat_le (length input / replay_record) chunk_records) (l
 unfoldable pub lines_in : Bool → ℕ → ℕ → rules.Server → List ℕ → List Line
 lines_in ends zero k s input = pick (ends && not (is_empty input)) (cut ∷ []) []
 lines_in ends (suc n) k s input =
-    line_of (record_kind (take replay_record input)) k s ∷ lines_in ends n (suc k) (server_after (record_kind (take replay_record input)) s) (drop replay_record input)
+    line_of (record_kind (take replay_record input)) k s ∷ lines_in ends n (suc k) (server_after (record_kind (take
+    replay_record input)) s) (drop replay_record input)
 
 -- the chunk is the input's last, and all its whole records are taken
 abbrev pub ends_with : Bool → List ℕ → Bool

@@ -5,7 +5,8 @@ use Rattle.lines.proofs.run.run_from.Given as goal
 
 abbrev pub invariant-loop-left : goal.invariant-loop-left
 invariant-loop-left l =
-    (l.at + 292 * l.left ≤ length l.input) × Went l.input l.initial.at l.initial.left l.initial.x l.initial.slots l.initial.memory l.at l.left l.x l.slots l.memory
+    (l.at + 292 * l.left ≤ length l.input) × Went l.input l.initial.at l.initial.left l.initial.x l.initial.slots
+    l.initial.memory l.at l.left l.x l.slots l.memory
 
 abbrev pub decreases-loop-left : goal.decreases-loop-left
 decreases-loop-left l = l.left

@@ -26,7 +26,8 @@ returns-then-n-lt1000-clause-puts_number c =
 pub returns-then-n-lt10000-clause-puts_number : goal.returns-then-n-lt10000-clause-puts_number
 returns-then-n-lt10000-clause-puts_number c =
     let a = c.args in
-    let s = four_digits a.n a.behind c.digit-then-n-lt10000.result c.digit-then-n-lt10000-2.result c.digit-then-n-lt10000-3.result c.digit-then-n-lt10000-4.result
+    let s = four_digits a.n a.behind c.digit-then-n-lt10000.result c.digit-then-n-lt10000-2.result
+    c.digit-then-n-lt10000-3.result c.digit-then-n-lt10000-4.result
     c.if-n-lt1000.false c.if-n-lt10000.true
     c.digit-then-n-lt10000.ensures c.digit-then-n-lt10000-2.ensures c.digit-then-n-lt10000-3.ensures c.digit-then-n-lt10000-4.ensures in
     (short_put a.n a.behind a.at 4
@@ -36,9 +37,12 @@ returns-then-n-lt10000-clause-puts_number c =
 pub returns-then-n-lt100000-clause-puts_number : goal.returns-then-n-lt100000-clause-puts_number
 returns-then-n-lt100000-clause-puts_number c =
     let a = c.args in
-    let s = five_digits a.n a.behind c.digit-then-n-lt100000.result c.digit-then-n-lt100000-2.result c.digit-then-n-lt100000-3.result c.digit-then-n-lt100000-4.result c.digit-then-n-lt100000-5.result
+    let s = five_digits a.n a.behind c.digit-then-n-lt100000.result c.digit-then-n-lt100000-2.result
+    c.digit-then-n-lt100000-3.result c.digit-then-n-lt100000-4.result c.digit-then-n-lt100000-5.result
     c.if-n-lt10000.false c.if-n-lt100000.true
-    c.digit-then-n-lt100000.ensures c.digit-then-n-lt100000-2.ensures c.digit-then-n-lt100000-3.ensures c.digit-then-n-lt100000-4.ensures c.digit-then-n-lt100000-5.ensures in
+    c.digit-then-n-lt100000.ensures c.digit-then-n-lt100000-2.ensures c.digit-then-n-lt100000-3.ensures
+    c.digit-then-n-lt100000-4.ensures c.digit-then-n-lt100000-5.ensures in
     (short_put a.n a.behind a.at 5
-    (c.digit-then-n-lt100000.result ∷ c.digit-then-n-lt100000-2.result ∷ c.digit-then-n-lt100000-3.result ∷ c.digit-then-n-lt100000-4.result ∷ c.digit-then-n-lt100000-5.result ∷ a.behind ∷ [])
+    (c.digit-then-n-lt100000.result ∷ c.digit-then-n-lt100000-2.result ∷ c.digit-then-n-lt100000-3.result ∷
+    c.digit-then-n-lt100000-4.result ∷ c.digit-then-n-lt100000-5.result ∷ a.behind ∷ [])
     a.text.now c.put-then-n-lt100000.new.out c.put-then-n-lt100000.result s c.put-then-n-lt100000.ensures).0
