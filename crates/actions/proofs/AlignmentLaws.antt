@@ -27,7 +27,7 @@ use Rattle.wire.specs.declared.read.Head.{Head}
 use Rattle.wire.specs.Views.{message_of}
 use Rattle.slots.specs.declared.state.Slot.{Slot}
 use Rattle.slots.specs.State.{slot_of, ca_in}
-use Rattle.table.specs.Words.{slot_in, Changes}
+use Rattle.table.specs.Slots.{slot_in, Changes}
 use Rattle.writer.specs.Write.{Wrote}
 use Rattle.actions.specs.Parts.{slot_with}
 use Rattle.actions.specs.Steps.{SendsCa, head_at, ca_packet_at}
@@ -77,7 +77,7 @@ pub kept_wrote : {p out after : List ℕ} {n : ℕ} → (n ≡ length p) × (aft
 kept_wrote h = record { size = h.0; octets = h.1 }
 
 -- the word of a slot that is completed
-pub completed_put : (k : ℕ) (t t' s : List ℕ) (n : ℕ) (a b : Alignment) → k < 8 → n ≡ length (requests_in s k) → a ≡ (slot_in t k).link.alignment
+pub completed_put : (k : ℕ) (t t' : List Slot) (s : List ℕ) (n : ℕ) (a b : Alignment) → k < 8 → n ≡ length (requests_in s k) → a ≡ (slot_in t k).link.alignment
     → b ≡ aligned_if (eqb n 0) a → Changes k (λ x. with_link (with_alignment b x.link) x) t t'
     → Changes k (λ x. with_link (with_alignment (aligned_if (is_empty (requests_of (memory_of s) k)) x.link.alignment) x.link) x) t t'
 completed_put k t t' s n a b lt e f g h =

@@ -3,11 +3,11 @@
 use Prim.Native.Nat.{ℕ, ◌<◌}
 use mathlib.Core.Path.{◌≡◌, refl, sym, ap, ◌∙◌, subst}
 use mathlib.Core.Bool.{Bool, true, false, ◌||◌, false≢true}
+use mathlib.Core.Logic.{◌⊎◌, inl, inr}
 use mathlib.Core.List.{List, []}
 use Rattle.laws.specs.Choice.{pick}
 use Rattle.laws.specs.Lists.{is_empty}
 use Rattle.protocol.specs.declared.CaFlags.{CaFlags}
-use Rattle.protocol.specs.declared.CaHead.{CaHead}
 use Rattle.protocol.specs.declared.Role.{Role}
 use Rattle.protocol.specs.declared.Role.TheVariants.{Slave}
 use Rattle.protocol.specs.declared.Alignment.{Alignment}
@@ -30,16 +30,16 @@ use Rattle.memory.specs.declared.next.Picks.{Picks}
 use Rattle.memory.specs.Memory.{rows_in, kept_in, Memory, memory_of, requests_of, kept_of, kept_put}
 use Rattle.memory.specs.Marks.{picks_of, Picked}
 use Rattle.records.specs.Walks.{TakesAll}
-use Rattle.wire.specs.declared.read.Head.{Head}
-use Rattle.wire.specs.Views.{records_of}
 use Rattle.writer.specs.declared.write.Common.{Common}
+use Rattle.slots.specs.declared.alignment.CaRule as code
+use Rattle.slots.specs.declared.alignment.CaRule.TheVariants as codes
 use Rattle.slots.specs.declared.state.Settings.{Settings}
 use Rattle.slots.specs.declared.state.Slot.{Slot}
-use Rattle.slots.specs.State.{settings_of, slot_of, ca_in}
+use Rattle.slots.specs.State.{settings_of, slot_of, rule_of}
 use Rattle.actions.specs.declared.parts.Acted.{Acted}
 use Rattle.writer.specs.Write.{Wrote}
 use Rattle.actions.specs.Parts.{slot_with, Leaves, Moves, Acts}
-use Rattle.actions.specs.Steps.{common_of, our_message, SendsCa, head_at, ca_packet_at, is_master, answers, taking_in, TakesCa}
+use Rattle.actions.specs.Steps.{common_of, our_message, SendsCa, is_master, answers, taking_in, TakesCa}
 use Rattle.actions.proofs.PartLaws.{kept_eight, kept_put_lem, left_rows, left_slot, leaves_as, leaves_then, leaves_requests, leaves_kept, leaves_same}
 use Rattle.actions.proofs.PartLaws.{wrote_none, acts_then}
 use Rattle.actions.proofs.AlignmentLaws.{kept_of_lem}
@@ -221,19 +221,18 @@ acts_as {slot' = slot'} {rows' = rows'} {out = out} {out' = out'} {r = r} e f g 
 }
 
 -- ---- the answer whole
-module _ (u : CaRule) (h : answers u ≡ true) (k time : ℕ) (s : rules.Settings) (p : List ℕ) (head : Head) (x : Slot) (before : List ℕ) where
+module _ (u : CaRule) (h : answers u ≡ true) (k time : ℕ) (s : rules.Settings) (c : CaPacket) (x : Slot) (before : List ℕ) where
   pub answer_acts : (y : Slot) (l : Link) (picks : Picks) (from : ℕ) (mid after out out' : List ℕ) (r : Acted) → k < 8
       → from ≡ answer_from u (slot_with x k before) → Picked from (next_used (rows_in before) from) picks
-      → l ≡ ca_move u (ca_packet_at p head).seen (used_from (rows_in before) picks.next) x.link
-      → Leaves k (taking_in l (rows_in before) (records_of p head.records) (slot_with x k before)) (rows_in before) before mid y
+      → l ≡ ca_move u c.seen (used_from (rows_in before) picks.next) x.link
+      → Leaves k (taking_in l (rows_in before) c.records (slot_with x k before)) (rows_in before) before mid y
       → Acts k (sent_slot s time (slot_with y k mid) (rows_in mid) (picks_of picks) picks.next) (rows_in mid)
       (packet_of (message_by s (slot_with y k mid) (rows_in mid) (picks_of picks))) mid after out out' r
-      → Acts k (ca_slot u s time (rows_in before) (ca_packet_at p head) (slot_with x k before)) (rows_in before)
-      (octets_of (ca_sent_by u s (rows_in before) (ca_packet_at p head) (slot_with x k before))) before after out out' r
+      → Acts k (ca_slot u s time (rows_in before) c (slot_with x k before)) (rows_in before)
+      (octets_of (ca_sent_by u s (rows_in before) c (slot_with x k before))) before after out out' r
   answer_acts y l picks from mid after out out' r lt ef ep el left sent =
       let X : rules.Slot = slot_with x k before in
       let rows : List Row = rows_in before in
-      let c : CaPacket = ca_packet_at p head in
       let es : picks_of picks ≡ next_used rows (answer_from u X) = ep.chosen ∙ ap (next_used rows) ef in
       let en : picks.next ≡ answer_to rows (answer_from u X) = ep.onward ∙ ap (answer_to rows) ef in
       let ey : slot_with y k mid ≡ slot_by rows c X u =
@@ -244,19 +243,16 @@ module _ (u : CaRule) (h : answers u ≡ true) (k time : ℕ) (s : rules.Setting
       ((λ i. packet_of (message_by s (ey i) (er i) (es i))) ∙ answer_octets rows c X s time u h) sent)
 
 -- ---- the master is done
-pub done_leaves : (k : ℕ) (p : List ℕ) (head : Head) (x y r : Slot) (l : Link) (seen : CaHead) (before mid after : List ℕ) → k < 8 → seen ≡ head_at p
-    → ((sender : List ℕ) (empty : Bool) → l ≡ ca_move master_done (ca_in seen sender empty) x.link.more x.link)
-    → Leaves k (taking_in l (rows_in before) (records_of p head.records) (slot_with x k before)) (rows_in before) before mid y
+pub done_leaves : (k : ℕ) (c : CaPacket) (x y r : Slot) (l : Link) (before mid after : List ℕ) → k < 8
+    → l ≡ ca_move master_done c.seen x.link.more x.link
+    → Leaves k (taking_in l (rows_in before) c.records (slot_with x k before)) (rows_in before) before mid y
     → memory_of after ≡ kept_put k [] (memory_of mid) → slot_with r k after ≡ completed (slot_with y k after)
-    → Leaves k (completed (with_kept [] (taking master_done (rows_in before) (ca_packet_at p head) (slot_with x k before)))) (rows_in before) before after r
-done_leaves k p head x y r l seen before mid after lt eh el left m er =
+    → Leaves k (completed (with_kept [] (taking master_done (rows_in before) c (slot_with x k before)))) (rows_in before) before after r
+done_leaves k c x y r l before mid after lt el left m er =
     let X : rules.Slot = slot_with x k before in
     let rows : List Row = rows_in before in
-    let c : CaPacket = ca_packet_at p head in
     let ey : slot_with y k mid ≡ slot_by rows c X master_done =
-    left_slot left lt
-    ∙ ap (λ (z : Link). taking_in z rows c.records X)
-    (el c.seen.sender c.seen.empty ∙ ap (λ (z : CaHead). ca_move master_done (ca_in z c.seen.sender c.seen.empty) x.link.more x.link) eh) in
+    left_slot left lt ∙ ap (λ (z : Link). taking_in z rows c.records X) el in
     let E : rules.Slot = completed (with_kept [] (taking master_done rows c X)) in
     let ends : slot_of r (requests_of (memory_of mid) k) [] ≡ E =
     sym (kept_slot k [] mid after lt m r) ∙ er ∙ ap completed (kept_slot k [] mid after lt m y)
@@ -264,6 +260,13 @@ done_leaves k p head x y r l seen before mid after lt eh el left m er =
     leaves_then left (leaves_as (leaves_kept k E mid after r [] m ends) E rows refl (left_rows left))
 
 -- ---- a CA taken, by its rule
+pub answers_of : (rule : code.CaRule) → (rule ≡ codes.BecomeSlave) ⊎ ((rule ≡ codes.BecomeMaster) ⊎ ((rule ≡ codes.SlaveOn) ⊎ (rule ≡ codes.MasterOn)))
+    → answers (rule_of rule) ≡ true
+answers_of rule (inl e) = ap (λ (r : code.CaRule). answers (rule_of r)) e
+answers_of rule (inr (inl e)) = ap (λ (r : code.CaRule). answers (rule_of r)) e
+answers_of rule (inr (inr (inl e))) = ap (λ (r : code.CaRule). answers (rule_of r)) e
+answers_of rule (inr (inr (inr e))) = ap (λ (r : code.CaRule). answers (rule_of r)) e
+
 module _ (k time : ℕ) (s : rules.Settings) (c : CaPacket) (x : Slot) (before : List ℕ) where
   abbrev slot_after : CaRule → rules.Slot
   slot_after u = ca_slot u s time (rows_in before) c (slot_with x k before)
@@ -287,7 +290,7 @@ module _ (k time : ℕ) (s : rules.Settings) (c : CaPacket) (x : Slot) (before :
       subst (λ (q : Acted). Acts k slot rows [] before after out out q) (sym e) (record { left = l; wrote = wrote_none out })
 
   -- the slot stays as it is, and nothing is written
-  pub takes_quiet : (u v : CaRule) (out : List ℕ) (r : Acted) → u ≡ v → slot_after v ≡ slot_with x k before
+  takes_quiet : (u v : CaRule) (out : List ℕ) (r : Acted) → u ≡ v → slot_after v ≡ slot_with x k before
       → octets_of (ca_sent_by v s (rows_in before) c (slot_with x k before)) ≡ [] → r ≡ record { slot = x; written = 0 }
       → TakesCa u k time s c x before before out out r
   takes_quiet u v out r e f g h =
@@ -296,6 +299,11 @@ module _ (k time : ℕ) (s : rules.Settings) (c : CaPacket) (x : Slot) (before :
       (takes_calm v before out out r
       (ap (λ (y : rules.Slot). enters x.link.alignment y.link.alignment) f ∙ enters_same x.link.alignment)
       (acts_as (sym f) refl (sym g) (silent_acts X (rows_in before) x before out r h (leaves_same k X before x refl))))
+
+  pub takes_silent : (rule : code.CaRule) (out : List ℕ) (r : Acted) → (rule ≡ codes.Refuse) ⊎ (rule ≡ codes.Ignore) → r ≡ record { slot = x; written = 0 }
+      → TakesCa (rule_of rule) k time s c x before before out out r
+  takes_silent rule out r (inl e) h = takes_quiet (rule_of rule) refuse_ca out r (ap rule_of e) refl refl h
+  takes_silent rule out r (inr e) h = takes_quiet (rule_of rule) ignore out r (ap rule_of e) refl refl h
 
   pub takes_repeat : (u : CaRule) (out out' : List ℕ) (r : Acted) → u ≡ repeat → k < 8
       → (slot_with r.slot k before ≡ ca_sent time (slot_with x k before)) × Wrote (kept_in before k) out out' r.written

@@ -15,13 +15,11 @@ use Rattle.laws.specs.Tables.{has}
 use Rattle.laws.proofs.Bools.{is_false}
 use Rattle.laws.proofs.Cells.{has_true, has_at, within}
 use Rattle.laws.proofs.TableLaws.{table_length}
-use Rattle.protocol.specs.declared.Role.{Role}
 use Rattle.protocol.specs.declared.Alignment.{Alignment}
-use Rattle.protocol.specs.declared.Alignment.TheVariants.{Summarize}
 use Rattle.rules.specs.Server as rules
 use Rattle.rules.specs.Server.{rows_most, Row, free, waits_for, row_at, Request}
 use Rattle.rules.specs.Rows.{behind, next_waiting}
-use Rattle.protocol.specs.declared.Last.{Last}
+use Rattle.std.specs.Prelude.{Option, Some, None}
 use Rattle.rules.specs.Slots.{passed}
 use Rattle.rules.specs.Poll as poll
 use Rattle.rules.specs.Poll.{due_in}
@@ -32,27 +30,21 @@ use Rattle.memory.specs.Marks.{picks_of, Picked}
 use Rattle.memory.proofs.Rooms.{requests_of_lem}
 use Rattle.slots.specs.declared.state.Slot.{Slot}
 use Rattle.actions.specs.declared.due.Due.{Due}
-use Rattle.actions.specs.declared.due.Due.TheVariants.{Nothing, Update}
-use Rattle.actions.specs.declared.due.Plan.{Plan}
-use Rattle.actions.specs.Steps.{due_kind, no_picks, GoodPicks, Plans}
+use Rattle.actions.specs.declared.due.Due.TheVariants.{Update}
+use Rattle.actions.specs.Steps.{due_kind, kind_of, GoodPicks, GoodPlan, Plans}
 
 -- ---- plans with no rows
-pub plan_is : (due : Due) (p : Picks) → p ≡ no_picks → ◌≡◌ {A = Plan} (record { due = due; picks = p }) (record { due = due; picks = no_picks })
-plan_is due p e = λ i. record { due = due; picks = e i }
+module _ (k : ℕ) (x : Slot) (memory : List ℕ) (r : Option Due) where
+  pub planned : (e : Option Due) (d : poll.Due) → GoodPlan e k x memory → kind_of e ≡ d → r ≡ e → Plans d k x memory r
+  planned e d g f h = subst (λ (p : Option Due). Plans d k x memory p) (sym h) (record { which = f; rows = g })
 
-pub plan_if : (b c : Bool) (due other : Due) (r : Plan) → pick c due Nothing ≡ other → b ≡ c → r ≡ record { due = other; picks = no_picks }
-    → r ≡ record { due = pick b due Nothing; picks = no_picks }
-plan_if b c due other r f e h = h ∙ (λ i. record { due = (sym f ∙ ap (λ (z : Bool). pick z due Nothing) (sym e)) i; picks = no_picks })
-
-module _ (k : ℕ) (x : Slot) (memory : List ℕ) (r : Plan) where
-  pub planned : (due : Due) (d : poll.Due) → GoodPicks due k x memory no_picks → due_kind due ≡ d → r ≡ record { due = due; picks = no_picks }
-      → Plans d k x memory r
-  planned due d g e h = subst (λ (p : Plan). Plans d k x memory p) (sym h) (record { which = e; rows = g })
-
-  pub planned_if : (due : Due) → GoodPicks due k x memory no_picks → (b : Bool) → r ≡ record { due = pick b due Nothing; picks = no_picks }
+  pub planned_if : (due : Due) → GoodPicks due k x memory → (b : Bool) → r ≡ pick b (Some due) None
       → Plans (pick b (due_kind due) poll.nothing_due) k x memory r
-  planned_if due g true h = planned due (due_kind due) g refl h
-  planned_if due g false h = planned Nothing poll.nothing_due tt refl h
+  planned_if due g true h = planned (Some due) (due_kind due) g refl h
+  planned_if due g false h = planned None poll.nothing_due tt refl h
+
+pub planned_as : {d : poll.Due} {k : ℕ} {x : Slot} {memory : List ℕ} {r e : Option Due} → r ≡ e → Plans d k x memory r → Plans d k x memory e
+planned_as {d} {k} {x} {memory} h p = subst (λ (z : Option Due). Plans d k x memory z) h p
 
 -- ---- 'CSU Request .. while a row waits'
 rows_many : (s : List ℕ) → length (rows_in s) ≡ 64
@@ -95,7 +87,7 @@ picked_some (suc n) [] f h = absurd (omega arith)
 picked_some (suc n) (x ∷ l) f h = refl
 
 module _ (s : List ℕ) (k : ℕ) (x : Slot) (p : Picks) (h : Picked x.cursor (next_waiting (rows_in s) k x.cursor) p) (passed : Bool) where
-  abbrev Due-by : Plan → Type 0
+  abbrev Due-by : Option Due → Type 0
   Due-by r = Plans (pick (passed && has (waits_for k) (rows_in s)) poll.an_update poll.nothing_due) k x s r
 
   idle_by : (b : Bool) → b ≡ false → pick (passed && b) poll.an_update poll.nothing_due ≡ poll.nothing_due
@@ -104,25 +96,23 @@ module _ (s : List ℕ) (k : ℕ) (x : Slot) (p : Picks) (h : Picked x.cursor (n
     by true = refl
     by false = refl
 
-  pub update_none : (r : Plan) → p.count ≡ 0 → r ≡ record { due = Nothing; picks = no_picks } → Due-by r
-  update_none r z e =
-      planned k x s r Nothing _ tt
-      (sym (idle_by (has (waits_for k) (rows_in s)) (waits_none (rows_in s) k x.cursor (rows_many s) (sym h.chosen ∙ picked_none p.count p.rows z)))) e
+  pub update_none : p.count ≡ 0 → Due-by None
+  update_none z = record {
+    which = sym (idle_by (has (waits_for k) (rows_in s)) (waits_none (rows_in s) k x.cursor (rows_many s) (sym h.chosen ∙ picked_none p.count p.rows z)));
+    rows = tt;
+  }
 
-  pub update_some : passed ≡ true → (p.count ≡ 0 → ⊥) → Due-by (record { due = Update; picks = p })
+  pub update_some : passed ≡ true → (p.count ≡ 0 → ⊥) → Due-by (Some (Update p))
   update_some t z =
       let w : has (waits_for k) (rows_in s) ≡ true =
       waits_some (rows_in s) k x.cursor (picks_of p) (sym h.chosen) (picked_some p.count p.rows h.full z) in
       record { which = rw (t, w); rows = h }
 
-pub update_early : (s : List ℕ) (k : ℕ) (x : Slot) (passed : Bool) (r : Plan) → passed ≡ false → r ≡ record { due = Nothing; picks = no_picks }
-    → Plans (pick (passed && has (waits_for k) (rows_in s)) poll.an_update poll.nothing_due) k x s r
-update_early s k x passed r e h = planned k x s r Nothing _ tt (rw e) h
+pub update_early : (s : List ℕ) (k : ℕ) (x : Slot) (passed : Bool) → passed ≡ false
+    → Plans (pick (passed && has (waits_for k) (rows_in s)) poll.an_update poll.nothing_due) k x s None
+update_early s k x passed e = record { which = rw e; rows = tt }
 
 -- ---- 'CSUS in Update'
-pub csus_early : (a : Bool) (l : List Request) → a ≡ false → false ≡ (a && not (is_empty l))
-csus_early a l e = rw e
-
 csus_count : (l : List Request) (n : ℕ) → n ≡ length l → not (eqb n 0) ≡ not (is_empty l)
 csus_count [] n e = rw (eq-eqb n 0 e)
 csus_count (q ∷ l) n e = rw (ne_eqb n 0 (λ z. omega arith))
@@ -132,29 +122,25 @@ pub csus_left : (a : Bool) (s : List ℕ) (k n : ℕ) → k < 8 → a ≡ true �
 csus_left a s k n h e f = rw (e, requests_of_lem s k h) (csus_count (requests_in s k) n f)
 
 -- ---- by the state
-module _ (time k : ℕ) (x : Slot) (memory : List ℕ) (y : rules.Slot) (r : Plan) where
+module _ (time k : ℕ) (x : Slot) (memory : List ℕ) (y : rules.Slot) (r : Option Due) where
   abbrev In : Alignment → Type 0
   In a = Plans (due_in time (rows_in memory) k y a) k x memory r
 
   pub in_state : (a b : Alignment) → a ≡ b → In b → In a
   in_state a b e h = subst In (sym e) h
 
-  pub in_summarize : (a b : Role) → a ≡ b → In (Summarize b) → In (Summarize a)
-  in_summarize a b e h = subst (λ (role : Role). In (Summarize role)) (sym e) h
-
 -- ---- the first that is due
-module _ (k : ℕ) (x : Slot) (memory : List ℕ) (r : Plan) (b : Bool) (d : poll.Due) where
+module _ (k : ℕ) (x : Slot) (memory : List ℕ) (r : Option Due) (b : Bool) (d : poll.Due) where
   -- `first` where b holds, else the other
-  pub due_first : (due : Due) → GoodPicks due k x memory no_picks → b ≡ true → r ≡ record { due = due; picks = no_picks }
-      → Plans (pick b (due_kind due) d) k x memory r
-  due_first due g e h = planned k x memory r due _ g (rw e) h
+  pub due_first : (due : Due) → GoodPicks due k x memory → b ≡ true → r ≡ Some due → Plans (pick b (due_kind due) d) k x memory r
+  due_first due g e h = planned k x memory r (Some due) _ g (rw e) h
 
   pub due_other : (first : poll.Due) → b ≡ false → Plans d k x memory r → Plans (pick b first d) k x memory r
   due_other first e h = rw e h
 
 -- ---- times that are read from the table
-pub passed_at : (n time : ℕ) (l m : Last) (r : Bool) → r ≡ passed n l time → l ≡ m → r ≡ passed n m time
-passed_at n time l m r h e = h ∙ ap (λ (z : Last). passed n z time) e
+pub passed_at : (n time : ℕ) (l m : Option ℕ) (r : Bool) → r ≡ passed n l time → l ≡ m → r ≡ passed n m time
+passed_at n time l m r h e = h ∙ ap (λ (z : Option ℕ). passed n z time) e
 
 pub picked_at : (c d : ℕ) (rows : List Row) (k : ℕ) (p : Picks) → Picked c (next_waiting rows k c) p → c ≡ d → Picked d (next_waiting rows k d) p
 picked_at c d rows k p h e = subst (λ (z : ℕ). Picked z (next_waiting rows k z) p) e h

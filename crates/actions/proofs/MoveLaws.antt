@@ -3,7 +3,7 @@
 use Prim.Native.Nat.{ℕ}
 use mathlib.Core.Path.{◌≡◌, refl, sym, ap, ◌∙◌, subst}
 use mathlib.Core.Bool.{Bool, true, false, ◌&&◌, false≢true}
-use mathlib.Core.List.{List}
+use mathlib.Core.List.{List, []}
 use borrow.Author.Tests.{eq-eqb, ne_eqb}
 use Rattle.laws.specs.Choice.{pick}
 use Rattle.laws.specs.Tables.{on}
@@ -22,26 +22,17 @@ use Rattle.memory.specs.Memory.{rows_in, Memory, memory_of, with_rows, requests_
 use Rattle.records.proofs.MemoryLaws.{memory_rows, rows_after}
 use Rattle.slots.specs.declared.state.Slot.{Slot}
 use Rattle.slots.specs.State.{slot_of, empty_if}
-use Rattle.table.specs.Words.{slot_in, Changes}
-use Rattle.actions.specs.Parts.{slot_with, slot_now, emptied_if, Moves, MovesAt}
+use Rattle.table.specs.Slots.{slot_in, Changes}
+use Rattle.actions.specs.Parts.{slot_with, slot_now, Moves, MovesAt}
 use Rattle.actions.proofs.PartLaws.{both_same, leaves_parts, leaves_as, leaves_same}
 
--- ---- the rows
-module _ (k : ℕ) (s : List ℕ) where
-  pub cleared : (t : List ℕ) (b : Bool) → b ≡ true → memory_of t ≡ with_rows (cleared_if true k (rows_in s)) (memory_of s)
-      → memory_of t ≡ with_rows (cleared_if b k (rows_in s)) (memory_of s)
-  cleared t b e h = h ∙ ap (λ (a : Bool). with_rows (cleared_if a k (rows_in s)) (memory_of s)) (sym e)
+-- ---- what follows in the memory
+-- slot k's part of the memory emptied, where b holds
+abbrev emptied_if : Bool → ℕ → Memory → Memory
+emptied_if true k m = kept_put k [] (requests_put k [] m)
+emptied_if false k m = m
 
-  pub cleared_none : (b : Bool) → b ≡ false → memory_of s ≡ with_rows (cleared_if b k (rows_in s)) (memory_of s)
-  cleared_none b e =
-      ap (λ (rows : List Row). with_rows rows (memory_of s)) (memory_rows s)
-      ∙ ap (λ (a : Bool). with_rows (cleared_if a k (rows_in s)) (memory_of s)) (sym e)
-
--- ---- the lists
 module _ (k : ℕ) (m : Memory) where
-  pub emptied_as : (t : Memory) (a b : Bool) → b ≡ a → t ≡ emptied_if a k m → t ≡ emptied_if b k m
-  emptied_as t a b e h = h ∙ ap (λ (c : Bool). emptied_if c k m) (sym e)
-
   emptied_parts : (b : Bool) → emptied_if b k m ≡ kept_put k (empty_if b (kept_of m k)) (requests_put k (empty_if b (requests_of m k)) m)
   emptied_parts true = refl
   emptied_parts false = sym (both_same m k)
@@ -50,9 +41,8 @@ module _ (k : ℕ) (m : Memory) where
   emptied_rows true = refl
   emptied_rows false = refl
 
--- ---- both, with the struct
 module _ (k : ℕ) (l : Link) (x : Slot) (before after : List ℕ) (r : Slot) where
-  pub moves : (mid : List ℕ) (b : Bool) → b ≡ enters x.link.alignment l.alignment
+  moves : (mid : List ℕ) (b : Bool) → b ≡ enters x.link.alignment l.alignment
       → memory_of mid ≡ emptied_if b k (memory_of before)
       → memory_of after ≡ with_rows (cleared_if b k (rows_in mid)) (memory_of mid)
       → ((qs : List Request) (kept : List ℕ)
@@ -71,8 +61,23 @@ module _ (k : ℕ) (l : Link) (x : Slot) (before after : List ℕ) (r : Slot) wh
       leaves_parts k (moved l (slot_with x k before)) before after r (cleared_if a k (rows_in before)) (empty_if a qs) (empty_if a p)
       (g ∙ (λ z. with_rows (cleared_if (e z) k (rows z)) (lists z))) (h qs p)
 
+  abbrev Moved : Type 0
+  Moved = (qs : List Request) (kept : List ℕ)
+      → slot_of r (empty_if (enters x.link.alignment l.alignment) qs) (empty_if (enters x.link.alignment l.alignment) kept)
+      ≡ moved l (slot_of x qs kept)
+
+  pub moves_entered : (mid : List ℕ) → enters x.link.alignment l.alignment ≡ true
+      → memory_of mid ≡ kept_put k [] (requests_put k [] (memory_of before))
+      → memory_of after ≡ with_rows (cleared_if true k (rows_in mid)) (memory_of mid) → Moved → Moves k l x before after r
+  moves_entered mid e f g h = moves mid true (sym e) f g h
+
+pub moves_still : (k : ℕ) (l : Link) (x : Slot) (s : List ℕ) (r : Slot) → enters x.link.alignment l.alignment ≡ false → Moved k l x s s r
+    → Moves k l x s s r
+moves_still k l x s r e h =
+    moves k l x s s r s false (sym e) refl (ap (λ (rows : List Row). with_rows rows (memory_of s)) (memory_rows s)) h
+
 -- ---- in the table
-module _ (k : ℕ) (t t' m m' : List ℕ) (y : Slot) where
+module _ (k : ℕ) (t t' : List Slot) (m m' : List ℕ) (y : Slot) where
   pub put_at_lem : ((j : ℕ) → slot_in t' j ≡ on k y (slot_in t) j) → slot_in t' k ≡ y
   put_at_lem h = h k ∙ rw (eq-eqb k k refl)
 
@@ -87,7 +92,7 @@ module _ (k : ℕ) (t t' m m' : List ℕ) (y : Slot) where
   }
 
 -- not moved
-pub not_moved : (k : ℕ) (t m : List ℕ) (l : Link) → (slot_in t k).link ≡ l → MovesAt k l t t m m
+pub not_moved : (k : ℕ) (t : List Slot) (m : List ℕ) (l : Link) → (slot_in t k).link ≡ l → MovesAt k l t t m m
 not_moved k t m l e =
     let x : Slot = slot_in t k in
     let same : enters x.link.alignment x.link.alignment ≡ false = enters_same x.link.alignment in
@@ -100,7 +105,7 @@ not_moved k t m l e =
     })
 
 -- moved by a word or some that leave the alignment where it is
-pub changed_still : (k : ℕ) (t t' m : List ℕ) (g : Link → Link) → Changes k (λ x. with_link (g x.link) x) t t'
+pub changed_still : (k : ℕ) (t t' : List Slot) (m : List ℕ) (g : Link → Link) → Changes k (λ x. with_link (g x.link) x) t t'
     → enters (slot_in t k).link.alignment (g (slot_in t k).link).alignment ≡ false → MovesAt k (g (slot_in t k).link) t t' m m
 changed_still k t t' m g c e =
     let x : rules.Slot = slot_now t k m in
@@ -111,7 +116,7 @@ changed_still k t t' m g c e =
       others = c.others;
     }
 
-module _ (k : ℕ) (t t' m m' : List ℕ) where
+module _ (k : ℕ) (t t' : List Slot) (m m' : List ℕ) where
   pub to_link : (l n : Link) → l ≡ n → MovesAt k l t t' m m' → MovesAt k n t t' m m'
   to_link l n e h = subst (λ (z : Link). MovesAt k z t t' m m') e h
 
@@ -123,7 +128,7 @@ down_by (Summarize r) h = absurd (false≢true (sym h))
 down_by Update h = absurd (false≢true (sym h))
 down_by Aligned h = absurd (false≢true (sym h))
 
-pub state_put : (k : ℕ) (t t' m : List ℕ) (h : HelloState) → enters (slot_in t k).link.alignment Down ≡ false
+pub state_put : (k : ℕ) (t t' : List Slot) (m : List ℕ) (h : HelloState) → enters (slot_in t k).link.alignment Down ≡ false
     → Changes k (λ x. with_link (with_hello h x.link) x) t t' → MovesAt k (to_other h (slot_in t k).link) t t' m m
 state_put k t t' m h e c =
     let l : Link = (slot_in t k).link in
@@ -136,7 +141,7 @@ stays_by true true r n o e = refl
 stays_by true false r n o e = absurd (false≢true e)
 stays_by false named r n o e = absurd (false≢true e)
 
-pub heard_put : (k : ℕ) (t t' m : List ℕ) (time interval factor : ℕ) (named : Bool) → (is_bidirectional (slot_in t k).link.hello && named) ≡ true
+pub heard_put : (k : ℕ) (t t' : List Slot) (m : List ℕ) (time interval factor : ℕ) (named : Bool) → (is_bidirectional (slot_in t k).link.hello && named) ≡ true
     → Changes k (λ x. with_link (recorded time interval factor x.link) x) t t'
     → MovesAt k (hello_move time interval factor named (slot_in t k).link) t t' m m
 heard_put k t t' m time interval factor named e c =

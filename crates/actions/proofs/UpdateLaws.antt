@@ -19,10 +19,10 @@ use Rattle.rules.specs.Sent.{octets_of}
 use Rattle.rules.specs.Packets.{updated_by, unless_empty}
 use Rattle.memory.specs.Memory.{rows_in, Memory, memory_of, with_rows, requests_put, requests_of, kept_of, kept_put}
 use Rattle.memory.specs.Entries.{rows_as}
-use Rattle.wire.specs.declared.record.Cursor.{Cursor}
-use Rattle.wire.specs.Views.{records_of}
 use Rattle.records.specs.declared.put.Placed.{Placed}
-use Rattle.records.specs.Walks.{Walks, updated_now, UpdatesAll}
+use Rattle.records.specs.declared.packet.Records.{Records}
+use Rattle.records.specs.Views.{records_in}
+use Rattle.records.specs.Walks.{updated_now, UpdatesAll}
 use Rattle.records.specs.Places.{Puts, Places}
 use Rattle.records.proofs.MemoryLaws.{both_requests}
 use Rattle.records.proofs.WalkLaws.{left_records}
@@ -30,7 +30,7 @@ use Rattle.writer.specs.declared.write.Common.{Common}
 use Rattle.slots.specs.declared.state.Settings.{Settings}
 use Rattle.slots.specs.declared.state.Slot.{Slot}
 use Rattle.slots.specs.State.{settings_of, slot_of}
-use Rattle.table.specs.Words.{slot_in, Changes}
+use Rattle.table.specs.Slots.{slot_in, Changes}
 use Rattle.writer.specs.Write.{Wrote}
 use Rattle.actions.specs.Parts.{slot_with}
 use Rattle.actions.specs.Steps.{common_of, our_message, WritesSome, TakesRequest, TakesCsus}
@@ -77,7 +77,7 @@ module _ (live : ℕ → Bool) (k : ℕ) (rs : List CsaRecord) (before after : L
       ((λ i. pick (is_empty (same i)) [] (packet_of (our_message (e i) (csu_reply (same i)))))
       ∙ octets_unless (is_empty new) (our_message (common_of s x.peer) (csu_reply new))) wrote
 
-  pub request_taken : (s : Settings) (t t' : List ℕ) (c : Common) (to : Placed) (out mid out' : List ℕ) (n : ℕ) → k < 8 → 284 ≤ length out
+  pub request_taken : (s : Settings) (t t' : List Slot) (c : Common) (to : Placed) (out mid out' : List ℕ) (n : ℕ) → k < 8 → 284 ≤ length out
       → c ≡ common_of s (slot_in t k).peer
       → Places 32 (map summary_of (all_updated live k rs (updated_now k [] before)).replies) 28 out mid to × (to.count ≤ 4)
       → WritesSome csu_reply c to.count to.next mid out' n
@@ -105,32 +105,32 @@ module _ (live : ℕ → Bool) (k : ℕ) (rs : List CsaRecord) (before after : L
 
 -- ---- a CSUS
 -- an answer to each record
-solicited_length : (rows : List Row) (p : List ℕ) (at : Cursor) → length (all_solicited rows (records_of p at)) ≡ at.left
-solicited_length rows p at = length-map (records_of p at) (solicited rows) ∙ left_records p at
+solicited_length : (rows : List Row) (r : Records) → length (all_solicited rows (records_in r)) ≡ r.cursor.left
+solicited_length rows r = length-map (records_in r) (solicited rows) ∙ left_records r.packet.now r.cursor
 
-pub solicited_within : (rows : List Row) (p : List ℕ) (at : Cursor) (out mid : List ℕ) (next : ℕ) → Walks p at
-    → Puts 64 (all_solicited rows (records_of p at)) 28 out mid next → (28 ≤ next) × (next ≤ 284)
-solicited_within rows p at out mid next walks puts =
-    let size = solicited_length rows p at in
-    let few = walks.few in
-    puts_within 64 (all_solicited rows (records_of p at)) 28 out mid next puts (omega arith) (omega arith)
+pub solicited_within : (rows : List Row) (r : Records) (out mid : List ℕ) (next : ℕ)
+    → Puts 64 (all_solicited rows (records_in r)) 28 out mid next → (28 ≤ next) × (next ≤ 284)
+solicited_within rows r out mid next puts =
+    let size = solicited_length rows r in
+    let few = r.walks.few in
+    puts_within 64 (all_solicited rows (records_in r)) 28 out mid next puts (omega arith) (omega arith)
 
-pub csus_taken : (s : Settings) (k : ℕ) (p : List ℕ) (at : Cursor) (before answered after t : List ℕ) (c : Common) (out mid out' : List ℕ) (next n : ℕ)
-    → 284 ≤ length out → Walks p at → c ≡ common_of s (slot_in t k).peer → Puts 64 (all_solicited (rows_in before) (records_of p at)) 28 out mid next
-    → WritesSome csu_request c at.left next mid out' n
-    → memory_of answered ≡ rows_as (all_answers_wait k (records_of p at)) before
+pub csus_taken : (s : Settings) (k : ℕ) (r : Records) (before answered after : List ℕ) (t : List Slot) (c : Common) (out mid out' : List ℕ) (next n : ℕ)
+    → 284 ≤ length out → c ≡ common_of s (slot_in t k).peer → Puts 64 (all_solicited (rows_in before) (records_in r)) 28 out mid next
+    → WritesSome csu_request c r.cursor.left next mid out' n
+    → memory_of answered ≡ rows_as (all_answers_wait k (records_in r)) before
     → memory_of after ≡ kept_put k [] (memory_of answered)
-    → TakesCsus k (settings_of s) (records_of p at) t before after out out' n
-csus_taken s k p at before answered after t c out mid out' next n long walks e puts w a m =
+    → TakesCsus k (settings_of s) (records_in r) t before after out out' n
+csus_taken s k r before answered after t c out mid out' next n long e puts w a m =
     let x : Slot = slot_in t k in
-    let rs : List CsaRecord = all_solicited (rows_in before) (records_of p at) in
-    let size : length rs ≡ at.left = solicited_length (rows_in before) p at in
-    let h = solicited_within (rows_in before) p at out mid next walks puts in
+    let rs : List CsaRecord = all_solicited (rows_in before) (records_in r) in
+    let size : length rs ≡ r.cursor.left = solicited_length (rows_in before) r in
+    let h = solicited_within (rows_in before) r out mid next puts in
     let wrote = w rs out (sym size) (omega arith) puts.octets in
     record {
       acts = record {
         left =
-            leaves_rows_kept k (with_kept [] (slot_with x k before)) before after x (all_answers_wait k (records_of p at) (rows_in before)) []
+            leaves_rows_kept k (with_kept [] (slot_with x k before)) before after x (all_answers_wait k (records_in r) (rows_in before)) []
             (m ∙ ap (kept_put k []) a) refl;
         wrote =
             subst (λ (l : List ℕ). Wrote l out out' n)

@@ -1,6 +1,6 @@
 -- What is left of a slot and its part of the memory, and of a lent slice that is written to.
 -- Assumes nothing.
-use Rattle.std.specs.Prelude.{ℕ, ◌≡◌, Bool, true, false, List, []}
+use Rattle.std.specs.Prelude.{ℕ, ◌≡◌, List}
 use Rattle.std.proofs.Math.ListN as lists
 use Rattle.protocol.specs.declared.Link.{Link}
 use Rattle.rules.specs.Server as rules
@@ -8,11 +8,11 @@ use Rattle.rules.specs.Server.{Row}
 use Rattle.rules.specs.Links.{enters}
 use Rattle.rules.specs.Rows.{cleared_if}
 use Rattle.rules.specs.Slots.{moved}
-use Rattle.memory.specs.Memory.{rows_in, Memory, memory_of, requests_put, kept_put, requests_of, kept_of}
+use Rattle.memory.specs.Memory.{rows_in, memory_of, requests_of, kept_of}
 use Rattle.writer.specs.Write.{Wrote}
 use Rattle.slots.specs.declared.state.Slot.{Slot}
 use Rattle.slots.specs.State.{slot_of}
-use Rattle.table.specs.Words.{slot_in, OthersStay}
+use Rattle.table.specs.Slots.{slot_in, OthersStay}
 use Rattle.actions.specs.declared.parts.Acted.{Acted}
 
 -- slot k with its part of the memory
@@ -20,12 +20,8 @@ abbrev pub slot_with : Slot → ℕ → List ℕ → rules.Slot
 slot_with x k memory = slot_of x (requests_of (memory_of memory) k) (kept_of (memory_of memory) k)
 
 -- of the table
-abbrev pub slot_now : List ℕ → ℕ → List ℕ → rules.Slot
+abbrev pub slot_now : List Slot → ℕ → List ℕ → rules.Slot
 slot_now slots k memory = slot_with (slot_in slots k) k memory
-
-abbrev pub emptied_if : Bool → ℕ → Memory → Memory
-emptied_if true k m = kept_put k [] (requests_put k [] m)
-emptied_if false k m = m
 
 -- a slot struct and its part of the memory are this slot, and the rows are these
 pub record Leaves (k : ℕ) (slot : rules.Slot) (rows : List Row) (before after : List ℕ) (x : Slot) : Type 0 where
@@ -42,7 +38,7 @@ Moves k l x before after r =
     Leaves k (moved l (slot_with x k before)) (cleared_if (enters x.link.alignment l.alignment) k (rows_in before)) before after r
 
 -- the same in the table, whose other slots stay
-pub record MovesAt (k : ℕ) (l : Link) (slots slots' before after : List ℕ) : Type 0 where
+pub record MovesAt (k : ℕ) (l : Link) (slots slots' : List Slot) (before after : List ℕ) : Type 0 where
   pub moves : Moves k l (slot_in slots k) before after (slot_in slots' k)
   pub others : OthersStay k slots slots'
 
@@ -53,6 +49,6 @@ pub record Acts (k : ℕ) (slot : rules.Slot) (rows : List Row) (p before after 
   pub wrote : Wrote p out out' r.written
 
 -- the same in the table, whose other slots stay
-pub record ActsAt (k : ℕ) (slot : rules.Slot) (rows : List Row) (p slots slots' before after out out' : List ℕ) (n : ℕ) : Type 0 where
+pub record ActsAt (k : ℕ) (slot : rules.Slot) (rows : List Row) (p : List ℕ) (slots slots' : List Slot) (before after out out' : List ℕ) (n : ℕ) : Type 0 where
   pub acts : Acts k slot rows p before after out out' (record { slot = slot_in slots' k; written = n })
   pub others : OthersStay k slots slots'

@@ -1,6 +1,6 @@
 -- What each function on a slot leaves and answers, in the words of the rules.
 -- Assumes nothing.
-use Rattle.std.specs.Prelude.{ℕ, ◌≤◌, ◌≡◌, Bool, true, false, List, [], ◌∷◌, map, length}
+use Rattle.std.specs.Prelude.{Option, Some, None, ℕ, ◌≤◌, ◌≡◌, Bool, true, false, List, [], map, length}
 use Rattle.laws.specs.Choice.{pick}
 use Rattle.laws.specs.Lists.{is_empty}
 use Rattle.laws.specs.Puts.{Put}
@@ -27,7 +27,6 @@ use Rattle.rules.specs.Updates.{all_solicited, all_answers_wait}
 use Rattle.rules.specs.Packets.{updated_by, unless_empty}
 use Rattle.rules.specs.Poll as poll
 use Rattle.rules.specs.Poll.{due_slot, due_sent, poll_slot, poll_sent}
-use Rattle.memory.specs.declared.next.Picks.{Picks}
 use Rattle.memory.specs.Memory.{rows_in, memory_of, kept_put, requests_of, requests_put}
 use Rattle.memory.specs.Marks.{Picked}
 use Rattle.wire.specs.declared.read.Head.{Head}
@@ -37,11 +36,10 @@ use Rattle.writer.specs.Write.{message_from, Wrote}
 use Rattle.slots.specs.declared.state.Settings.{Settings}
 use Rattle.slots.specs.declared.state.Slot.{Slot}
 use Rattle.slots.specs.State.{slot_of}
-use Rattle.table.specs.Words.{slot_in, OthersStay}
+use Rattle.table.specs.Slots.{slot_in, OthersStay}
 use Rattle.actions.specs.declared.parts.Acted.{Acted}
 use Rattle.actions.specs.declared.due.Due.{Due}
-use Rattle.actions.specs.declared.due.Due.TheVariants.{Nothing, Hello, FirstCa, KeptCa, Csus, Update}
-use Rattle.actions.specs.declared.due.Plan.{Plan}
+use Rattle.actions.specs.declared.due.Due.TheVariants.{Hello, FirstCa, KeptCa, Csus, Update}
 use Rattle.actions.specs.Parts.{slot_with, slot_now, Acts, ActsAt}
 
 -- ---- what is written
@@ -71,9 +69,13 @@ pub record SendsCsus (k : ℕ) (p before after out out' : List ℕ) (r : ℕ) : 
 abbrev pub head_at : List ℕ → CaHead
 head_at p = record { number = numbers.ca_number (field4 p 8); flags = flags_at p 18 }
 
+-- a CA of this head and these records
+abbrev pub ca_packet_by : CaHead → List CsaRecord → List ℕ → CaPacket
+ca_packet_by head rs sender = ca_packet head.number head.flags rs sender
+
 -- the packet with this head, as a CA
 abbrev pub ca_packet_at : List ℕ → Head → CaPacket
-ca_packet_at p h = ca_packet (numbers.ca_number (field4 p 8)) (flags_at p 18) (records_of p h.records) (message_of p h).sender
+ca_packet_at p h = ca_packet_by (head_at p) (records_of p h.records) (message_of p h).sender
 
 abbrev pub is_master : Role → Bool
 is_master Master = true
@@ -102,14 +104,14 @@ TakesCa u k now s c x before after out out' r =
     (octets_of (ca_sent_by u s (rows_in before) c (slot_with x k before))) before after out out' r
 
 -- ---- updates
-abbrev pub TakesRequest : (ℕ → Bool) → ℕ → rules.Settings → List CsaRecord → List ℕ → List ℕ → List ℕ → List ℕ → List ℕ → List ℕ → ℕ → Type 0
+abbrev pub TakesRequest : (ℕ → Bool) → ℕ → rules.Settings → List CsaRecord → List Slot → List Slot → List ℕ → List ℕ → List ℕ → List ℕ → ℕ → Type 0
 TakesRequest live k s rs slots slots' before after out out' n =
     let y = slot_now slots k before in
     ActsAt k (completed (with_requests (updated_by live k rs (rows_in before) y.requests).requests y.missed y))
     (updated_by live k rs (rows_in before) []).rows
     (octets_of (unless_empty s y csu_reply (map summary_of (updated_by live k rs (rows_in before) []).replies))) slots slots' before after out out' n
 
-abbrev pub TakesCsus : ℕ → rules.Settings → List CsaRecord → List ℕ → List ℕ → List ℕ → List ℕ → List ℕ → ℕ → Type 0
+abbrev pub TakesCsus : ℕ → rules.Settings → List CsaRecord → List Slot → List ℕ → List ℕ → List ℕ → List ℕ → ℕ → Type 0
 TakesCsus k s rs t before after out out' n =
     let y = slot_now t k before in
     ActsAt k (slots.with_kept [] y) (all_answers_wait k rs (rows_in before))
@@ -117,28 +119,33 @@ TakesCsus k s rs t before after out out' n =
 
 -- ---- a poll
 abbrev pub due_kind : Due → poll.Due
-due_kind Nothing = poll.nothing_due
 due_kind Hello = poll.a_hello
 due_kind FirstCa = poll.first_ca
 due_kind KeptCa = poll.kept_ca
 due_kind Csus = poll.a_csus
-due_kind Update = poll.an_update
+due_kind (Update p) = poll.an_update
 
-abbrev pub no_picks : Picks
-no_picks = record { count = 0; rows = 0 ∷ 0 ∷ 0 ∷ 0 ∷ []; next = 0 }
+-- of what a poll answers: nothing is due, or one of them
+abbrev pub kind_of : Option Due → poll.Due
+kind_of None = poll.nothing_due
+kind_of (Some d) = due_kind d
 
 -- the rows of an update request are the next that wait
-abbrev pub GoodPicks : Due → ℕ → Slot → List ℕ → Picks → Type 0
-GoodPicks Nothing k x memory p = Unit {0}
-GoodPicks Hello k x memory p = Unit {0}
-GoodPicks FirstCa k x memory p = Unit {0}
-GoodPicks KeptCa k x memory p = Unit {0}
-GoodPicks Csus k x memory p = Unit {0}
-GoodPicks Update k x memory p = Picked x.cursor (next_waiting (rows_in memory) k x.cursor) p
+abbrev pub GoodPicks : Due → ℕ → Slot → List ℕ → Type 0
+GoodPicks Hello k x memory = Unit {0}
+GoodPicks FirstCa k x memory = Unit {0}
+GoodPicks KeptCa k x memory = Unit {0}
+GoodPicks Csus k x memory = Unit {0}
+GoodPicks (Update p) k x memory = Picked x.cursor (next_waiting (rows_in memory) k x.cursor) p
 
-pub record Plans (d : poll.Due) (k : ℕ) (x : Slot) (memory : List ℕ) (r : Plan) : Type 0 where
-  pub which : due_kind r.due ≡ d
-  pub rows : GoodPicks r.due k x memory r.picks
+-- the same where nothing may be due
+abbrev pub GoodPlan : Option Due → ℕ → Slot → List ℕ → Type 0
+GoodPlan None k x memory = Unit {0}
+GoodPlan (Some d) k x memory = GoodPicks d k x memory
+
+pub record Plans (d : poll.Due) (k : ℕ) (x : Slot) (memory : List ℕ) (r : Option Due) : Type 0 where
+  pub which : kind_of r ≡ d
+  pub rows : GoodPlan r k x memory
 
 -- what is due is written, with what follows for slot k's part of the memory
 pub record WritesDue (d : poll.Due) (k : ℕ) (s : rules.Settings) (x : Slot) (before after out out' : List ℕ) (r : ℕ) : Type 0 where
@@ -147,19 +154,26 @@ pub record WritesDue (d : poll.Due) (k : ℕ) (s : rules.Settings) (x : Slot) (b
       (requests_put k (due_slot d s now (rows_in before) k (slot_with x k before)).requests (memory_of before))
   pub wrote : Wrote (octets_of (due_sent d s (rows_in before) k (slot_with x k before))) out out' r
 
--- the slot after it
-abbrev pub SlotDue : poll.Due → ℕ → Picks → Slot → Slot → Type 0
-SlotDue d now p x r =
-    (s : rules.Settings) (rows : List Row) (k : ℕ) (qs : List Request) (kept : List ℕ)
-    → (d ≡ poll.an_update → p.next ≡ behind x.cursor (next_waiting rows k x.cursor))
-    → slot_of r (due_slot d s now rows k (slot_of x qs kept)).requests (due_slot d s now rows k (slot_of x qs kept)).kept
-    ≡ due_slot d s now rows k (slot_of x qs kept)
+-- an update request goes on behind its rows
+abbrev pub GoesOn : Due → Slot → List Row → ℕ → Type 0
+GoesOn Hello x rows k = Unit {0}
+GoesOn FirstCa x rows k = Unit {0}
+GoesOn KeptCa x rows k = Unit {0}
+GoesOn Csus x rows k = Unit {0}
+GoesOn (Update p) x rows k = p.next ≡ behind x.cursor (next_waiting rows k x.cursor)
 
-pub record PutsDue (d : poll.Due) (now : ℕ) (p : Picks) (k : ℕ) (before after : List ℕ) : Type 0 where
-  pub slot : SlotDue d now p (slot_in before k) (slot_in after k)
+-- the slot after it
+abbrev pub SlotDue : Due → ℕ → Slot → Slot → Type 0
+SlotDue d now x r =
+    (s : rules.Settings) (rows : List Row) (k : ℕ) (qs : List Request) (kept : List ℕ) → GoesOn d x rows k
+    → slot_of r (due_slot (due_kind d) s now rows k (slot_of x qs kept)).requests (due_slot (due_kind d) s now rows k (slot_of x qs kept)).kept
+    ≡ due_slot (due_kind d) s now rows k (slot_of x qs kept)
+
+pub record PutsDue (d : Due) (now k : ℕ) (before after : List Slot) : Type 0 where
+  pub slot : SlotDue d now (slot_in before k) (slot_in after k)
   pub others : OthersStay k before after
 
-abbrev pub PollsAt : ℕ → ℕ → rules.Settings → List ℕ → List ℕ → List ℕ → List ℕ → List ℕ → List ℕ → ℕ → Type 0
+abbrev pub PollsAt : ℕ → ℕ → rules.Settings → List Slot → List Slot → List ℕ → List ℕ → List ℕ → List ℕ → ℕ → Type 0
 PollsAt k now s slots slots' before after out out' n =
     let x = slot_now slots k before in
     let y = poll_slot s now (rows_in before) k x in

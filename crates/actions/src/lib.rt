@@ -1,4 +1,4 @@
-// What events do in a slot, by sections of document 01: to the slot struct, to the slot's part of the lent memory, and to the lent out slice.
+// What events do in a slot, by sections of document 01: to the slot in the lent table, to the slot's part of the lent memory, and to the lent out slice.
 #![tactic(auto)]
 
 pub mod alignment;

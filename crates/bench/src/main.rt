@@ -2,15 +2,35 @@
 // against the same work in Rust. Input: kind (0 find, 1 store, 2 next four), rows used (at most 64), how often (4 octets).
 #![tactic(auto)]
 
-ghost use Rattle.std.specs.Prelude.{◌≡◌, ◌<◌, length};
-ghost use Rattle.memory.specs.Layout.{memory_size};
+ghost use Rattle.std.specs.Prelude.{◌<◌};
 
-use memory::rows::Found;
-use memory::store::Inserted;
+use memory::Storage;
+use memory::names::EntryName;
+use memory::next::Picks;
+use memory::store::{Held, Payload};
+use protocol::Index;
+
+// What is timed.
+#[derive(Clone, Copy)]
+enum Kind {
+    Find,
+    Store,
+    Next,
+}
+
+impl From<u8> for Kind {
+    fn from(octet: u8) -> Self {
+        match octet {
+            0 => Kind::Find,
+            1 => Kind::Store,
+            _ => Kind::Next,
+        }
+    }
+}
 
 // The next of a row of numbers that go up and down.
 fn scrambled(x: u32) -> u32 {
-    (((x as u64) * 1664525 + 1013904223) % 4294967296) as u32
+    x.wrapping_mul(1664525).wrapping_add(1013904223)
 }
 
 // The name of entry n: a key of 8 octets, and the originator.
@@ -19,113 +39,88 @@ fn name_of(n: u32) -> [u8; 12] {
 }
 
 // The row of entry n, 64 for none.
-fn find(memory: &[u8], n: u32) -> u32
-    requires { length memory.now ≡ memory_size }
+fn find(memory: &Storage, n: u32) -> u32
     ensures { result < 65 }
 {
     let name = name_of(n);
-    match memory::rows::find(memory, &name) {
-        Found::At(i) => (i % 64) as u32,
-        Found::Nothing => 64,
-    }
+    memory::rows::find(memory, &name).map_or(64, |i| i.at as u32)
 }
 
-// A record of entry n with this number: stored where the entry is new and a row is free, or the number is newer.
-fn store(memory: &mut [u8], n: u32, number: u32) -> u32
-    requires { length memory.old ≡ memory_size }
+// A record of entry n with this number: stored where the entry is new and a row is free (1, or 2 where none is), or the number is newer.
+fn store(memory: &mut Storage, n: u32, number: u32) -> u32
     ensures { result < 3 }
 {
     let name = name_of(n);
-    let payload = [9u8; 16];
-    let csa = numbers::csa_of(number);
+    let v = Held {
+        number: numbers::csa_of(number),
+        payload: Payload { octets: &[9; 16] },
+        remaining: 15,
+        marks: 255,
+    };
     match memory::rows::find(memory, &name) {
-        Found::At(i) => {
-            if 64 <= i {
-                return 0;
-            }
-            if numbers::newer(csa, memory::rows::number_of(memory, i)) {
-                memory::store::put_value(memory, i, csa, &payload, 15, 255);
+        Some(i) => {
+            if numbers::newer(v.number, memory::rows::number_of(memory, i)) {
+                memory::store::put_value(memory, i, v);
                 return 1;
             }
             0
         }
-        Found::Nothing => match memory::store::insert(memory, &name, csa, &payload, 15, 255) {
-            Inserted::Stored => 1,
-            Inserted::Full => 2,
+        None => match memory::store::insert(memory, EntryName { octets: &name }, v) {
+            Some(_) => 1,
+            None => 2,
         },
     }
 }
 
 // The next four rows for slot 0 from a row on: how many there are, and where to go on.
-fn next(memory: &[u8], from: u32) -> u32
-    requires { length memory.now ≡ memory_size }
-{
+fn next(memory: &Storage, from: u32) -> u32 {
     let at = (from % 64) as usize;
-    let p = memory::next::next_waiting(memory, 0, at);
+    let p = Picks::next_waiting(memory, Index { at: 0 }, at);
     ((p.count % 64 * 64 + p.next % 64) % 4096) as u32
 }
 
 // Step i of the work, with x for chance.
-fn step(memory: &mut [u8], kind: u8, rows: u32, i: u32, x: u32) -> u32
-    requires memory_len { length memory.old ≡ memory_size }
-    requires rows_nonzero { 0 < rows }
+fn step(memory: &mut Storage, kind: Kind, rows: u32, i: u32, x: u32) -> u32
+    requires { 0 < rows }
 {
     let n = x / 65536;
-    if kind == 0 {
-        return find(memory, n % 96);
+    match kind {
+        Kind::Find => find(memory, n % 96),
+        Kind::Store => store(memory, n % rows, i),
+        Kind::Next => next(memory, n),
     }
-    if kind == 1 {
-        return store(memory, n % rows, i);
-    }
-    next(memory, n)
 }
 
 fn mixed(sum: u32, r: u32) -> u32 {
-    (((sum as u64) * 31 + (r as u64)) % 4294967296) as u32
+    sum.wrapping_mul(31).wrapping_add(r)
 }
 
-fn fill(memory: &mut [u8], rows: u32)
-    requires { length memory.old ≡ memory_size }
-{
-    let mut n: u32 = 0;
-    while n < rows {
-        store(memory, n, 1);
-        n += 1;
-    }
-}
-
-fn work(memory: &mut [u8], kind: u8, rows: u32, count: u32) -> u32
-    requires memory_len { length memory.old ≡ memory_size }
-    requires rows_nonzero { 0 < rows }
-{
-    fill(memory, rows);
-    let mut x: u32 = 1;
-    let mut sum: u32 = 0;
-    let mut i: u32 = 0;
-    while i < count {
-        x = scrambled(x);
-        sum = mixed(sum, step(memory, kind, rows, i, x));
-        i += 1;
-    }
-    sum
-}
-
-fn lent(memory: &mut [u8; 21504], kind: u8, rows: u32, count: u32) -> u32
+fn work(memory: &mut Storage, kind: Kind, rows: u32, count: u32) -> u32
     requires { 0 < rows }
 {
-    work(memory, kind, rows, count)
+    for n in 0..rows {
+        store(memory, n, 1);
+    }
+    let mut x: u32 = 1;
+    let mut sum: u32 = 0;
+    for i in 0..count {
+        x = scrambled(x);
+        sum = mixed(sum, step(memory, kind, rows, i, x));
+    }
+    sum
 }
 
 fn main() {
     let mut buf = io::buffer();
     let n = io::read_full(0, &mut buf);
     let input = octets::first(&buf, n);
-    let kind = octets::octet(input, 0);
+    let kind = Kind::from(octets::octet(input, 0));
     let rows = octets::octet(input, 1);
     let count = octets::field4(input, 2);
     let mut memory = [0u8; 21504];
     if rows > 0 {
-        io::print_decimal(1, lent(&mut memory, kind, rows as u32, count) as u64);
+        let sum = work(&mut memory, kind, rows as u32, count);
+        io::print_decimal(1, sum as u64);
         io::write_all(1, b"\n");
     }
 }

@@ -1,6 +1,7 @@
 -- Document 01, 'Marked cases': what the definitions of the protocol and the server's rules give for the numbers of each.
 -- Assumes nothing.
-use Rattle.std.specs.Prelude.{ℕ, ◌*◌, ◌%◌, false, List, [], ◌∷◌, length, get_or, replicate, ltb}
+use Rattle.std.specs.Prelude.{ℕ, ◌*◌, ◌%◌, false, List, [], ◌∷◌, length, replicate, Option}
+use Rattle.std.specs.List.{slice_get}
 use Rattle.laws.specs.Choice.{pick}
 use Rattle.protocol.specs.declared.CsaNumber.{CsaNumber}
 use Rattle.protocol.specs.declared.Role.TheVariants.{Master}
@@ -22,8 +23,6 @@ use Rattle.cases.specs.declared.Rule.{Rule}
 use Rattle.cases.specs.declared.Rule.TheVariants.{Order, Next, SetCode, Stale, Product, Checksum, RecordLength, PacketLength, PacketCode}
 use Rattle.cases.specs.declared.Numbers.{Numbers}
 use Rattle.cases.specs.declared.Case.{Case}
-use Rattle.cases.specs.declared.Found.{Found}
-use Rattle.cases.specs.declared.Found.TheVariants.{Row as Found-row, NoRow}
 
 -- ---- the packets of the cases
 -- a Hello from a server with this ID and these settings, to nobody
@@ -159,9 +158,5 @@ cases =
     ∷ case 10 PacketCode (numbers 4 16 32 1 0)
     ∷ []
 
--- what stands past the end of the table
-abbrev pub no_case : Case
-no_case = record { 0 = 0; 1 = Order; 2 = numbers 0 0 0 0 0; 3 = 0 }
-
-abbrev pub case_at : ℕ → Found
-case_at i = pick (ltb i (length cases)) (Found-row (get_or cases i no_case)) NoRow
+abbrev pub case_at : ℕ → Option Case
+case_at i = slice_get cases i

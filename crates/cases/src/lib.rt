@@ -5,7 +5,7 @@ ghost use Rattle.std.specs.Prelude.{◌≡◌};
 ghost use Rattle.cases.specs.Cases.{numbers, outcome, case_at};
 
 // What is computed from the numbers of a row. `outcome` says how.
-#[derive(Clone, Copy)]
+#[derive(Clone, Copy, PartialEq, Eq)]
 pub enum Rule {
     Order,
     Next,
@@ -19,22 +19,14 @@ pub enum Rule {
 }
 
 // The numbers of a row, unused ones 0; a CSA number by its 32 bits.
-#[derive(Clone, Copy)]
+#[derive(Clone, Copy, PartialEq, Eq)]
 pub struct Numbers(pub u32, pub u32, pub u32, pub u32, pub u32);
 
 // A row: which marked case it is of, its rule, the numbers and the expected result.
-#[derive(Clone, Copy)]
+#[derive(Clone, Copy, PartialEq, Eq)]
 pub struct Case(pub u32, pub Rule, pub Numbers, pub u32);
 
-#[derive(Clone, Copy)]
-pub enum Found {
-    Row(Case),
-    NoRow,
-}
-
-const ROWS: usize = 18;
-
-const CASES: [Case; ROWS] = [
+const CASES: [Case; 18] = [
     // -2147483647 is older than 0
     Case(1, Rule::Order, Numbers(0x80000001, 0, 0, 0, 0), 0),
     // 2147483647 is newer than -2147483647
@@ -66,15 +58,10 @@ const CASES: [Case; ROWS] = [
 ];
 
 // The row at a place of the table: the case that the paper has there, with the result that the definitions give.
-pub fn marked(i: usize) -> Found
+pub fn marked(i: usize) -> Option<Case>
     ensures { result ≡ case_at i }
 {
-    if i < ROWS {
-        let row = CASES[i];
-        Found::Row(row)
-    } else {
-        Found::NoRow
-    }
+    CASES.get(i).copied()
 }
 
 // Case 7 by the server's own function of two 16-bit numbers: no product of theirs is too large for 32 bits.

@@ -5,13 +5,14 @@ ghost use Rattle.std.specs.Prelude.{◌≡◌};
 ghost use Rattle.host.specs.Host.{used_after};
 
 use lines::run;
+use memory::Storage;
+use table::Slots;
 
-fn run_in(slots: &mut [usize; 200], memory: &mut [u8; 21504], input: &[u8]) -> u32
+fn run_in(slots: &mut Slots, memory: &mut Storage, input: &[u8]) -> u32
     ensures { result ≡ used_after input.now }
 {
     let a = run::run(slots, memory, input);
-    let outcome = a.outcome;
-    if slots::answers::is_taken(outcome) {
+    if a.outcome.is_ok() {
         return server::queries::rows_used(memory) as u32;
     }
     255
@@ -22,7 +23,7 @@ fn run_in(slots: &mut [usize; 200], memory: &mut [u8; 21504], input: &[u8]) -> u
 pub extern "C" fn wemelstuif_run(input: &[u8]) -> u32
     ensures { result ≡ used_after input.now }
 {
-    let mut slots = [0usize; 200];
+    let mut slots = table::empty();
     let mut memory = [0u8; 21504];
     run_in(&mut slots, &mut memory, input)
 }

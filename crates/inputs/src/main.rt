@@ -2,6 +2,9 @@
 // octets. For tests of what ends an input: nothing, settings that are refused, a short record.
 #![tactic(auto)]
 
+use memory::Storage;
+use table::Slots;
+
 const SPACE: usize = 65700;
 
 fn print(text: &[u8; 20480], n: usize) {
@@ -9,17 +12,11 @@ fn print(text: &[u8; 20480], n: usize) {
 }
 
 // One input, its first record and one chunk behind it.
-fn replay(
-    slots: &mut [usize; 200],
-    memory: &mut [u8; 21504],
-    input: &[u8],
-    text: &mut [u8; 20480],
-) {
+fn replay(slots: &mut Slots, memory: &mut Storage, input: &[u8], text: &mut [u8; 20480]) {
     let first = lines::chunk::open(slots, memory, octets::first(input, 292), text);
     print(text, first.text);
     let a = first.answer;
-    let outcome = a.outcome;
-    if slots::answers::is_taken(outcome) {
+    if a.outcome.is_ok() {
         let rest = octets::tail(input, 292);
         let c = lines::chunk::replay(a.server, slots, memory, rest, true, 1, text);
         print(text, c.text);
@@ -35,18 +32,16 @@ fn read(space: &mut [u8], n: usize) -> usize {
 }
 
 fn main() {
-    let mut slots = [0usize; 200];
+    let mut slots = table::empty();
     let mut memory = [0u8; 21504];
     let mut text = [0u8; 20480];
     let mut space = [0u8; SPACE];
     let mut head = [0u8; 4];
-    let mut turns = u64::MAX;
-    while turns > 0 {
+    for _ in 0..u64::MAX {
         if io::read_full(0, &mut head) < 4 {
             return;
         }
         let n = read(&mut space, octets::field4(&head, 0) as usize);
         replay(&mut slots, &mut memory, octets::first(&space, n), &mut text);
-        turns -= 1;
     }
 }

@@ -4,23 +4,22 @@
 
 ghost use Rattle.std.specs.Prelude.{◌≡◌, ◌+◌, ◌≤◌, length};
 
+use memory::Storage;
 use protocol::{CaFlags, CaNumber, CsaNumber};
 use server::answers::Answer;
-use server::queries::Status;
 use server::{events, queries};
-use slots::answers::Outcome;
 use slots::state::{Server, Settings};
+use table::Slots;
 use writer::write;
 use writer::write::Common;
 
 fn print(n: u64) {
     io::print_decimal(1, n);
-    io::write_all(1, &[10u8]);
+    io::write_all(1, b"\n");
 }
 
 fn print_code(a: Answer) {
-    let outcome = a.outcome;
-    print(slots::answers::code(outcome) as u64);
+    print(slots::answers::code(a.outcome) as u64);
 }
 
 // ---- the peer's packets
@@ -42,18 +41,16 @@ fn put_summary(out: &mut [u8], at: usize, n: u32) -> usize
     requires { at + 64 ≤ length out.old }
     ensures { result ≡ at + 20 }
 {
-    let name = [
-        (n / 16777216 % 256) as u8,
-        (n / 65536 % 256) as u8,
-        (n / 256 % 256) as u8,
-        (n % 256) as u8,
-        10,
-        0,
-        0,
-        9,
-    ];
-    let payload = octets::first(&name, 0);
-    write::put_record(out, at, 1, false, CsaNumber(0), &name, payload)
+    let [a, b, c, d] = n.to_be_bytes();
+    write::put_record(
+        out,
+        at,
+        1,
+        false,
+        CsaNumber(0),
+        &[a, b, c, d, 10, 0, 0, 9],
+        &[],
+    )
 }
 
 // Four summaries, each of an entry that no other has, behind the head of a CA.
@@ -61,12 +58,12 @@ fn put_summaries(out: &mut [u8], n: u32) -> usize
     requires { length out.old ≡ 284 }
     ensures { result ≡ 112 }
 {
-    let k = std::num::wrapping_add_u32(n, n);
-    let m = std::num::wrapping_add_u32(k, k);
-    let a = put_summary(out, 32, m);
-    let b = put_summary(out, a, std::num::wrapping_add_u32(m, 1));
-    let c = put_summary(out, b, std::num::wrapping_add_u32(m, 2));
-    put_summary(out, c, std::num::wrapping_add_u32(m, 3))
+    let first = n.wrapping_mul(4);
+    let mut at = 32;
+    for i in 0..4 {
+        at = put_summary(out, at, first.wrapping_add(i));
+    }
+    at
 }
 
 // The master's n-th CA: the first has M, I and O set and no records, each later one four summaries.
@@ -89,7 +86,7 @@ fn write_ca(out: &mut [u8], n: u32) -> usize
 }
 
 // ---- the server's part
-fn start(slots: &mut [usize; 200], memory: &mut [u8; 21504], interval: u16) -> Server {
+fn start(slots: &mut Slots, memory: &mut Storage, interval: u16) -> Server {
     let settings = Settings {
         id: [10, 0, 0, 2],
         protocol: 2,
@@ -104,12 +101,7 @@ fn start(slots: &mut [usize; 200], memory: &mut [u8; 21504], interval: u16) -> S
 }
 
 // A poll and a Hello of the peer.
-fn poll_and_hello(
-    s: Server,
-    slots: &mut [usize; 200],
-    memory: &mut [u8; 21504],
-    out: &mut [u8],
-) -> Server {
+fn poll_and_hello(s: Server, slots: &mut Slots, memory: &mut Storage, out: &mut [u8]) -> Server {
     let mut hello = [0u8; 284];
     let n = write::write_hello(&mut hello, common(), 10, 3, true);
     let a = events::poll(s, slots, memory, 0, 0, out);
@@ -120,14 +112,14 @@ fn poll_and_hello(
 }
 
 // With 283 octets of room, then with 284.
-fn short_out(s: Server, slots: &mut [usize; 200], memory: &mut [u8; 21504]) -> Server {
+fn short_out(s: Server, slots: &mut Slots, memory: &mut Storage) -> Server {
     let mut less = [0u8; 283];
     let mut out = [0u8; 284];
     let t = poll_and_hello(s, slots, memory, &mut less);
     poll_and_hello(t, slots, memory, &mut out)
 }
 
-fn take_ca(s: Server, slots: &mut [usize; 200], memory: &mut [u8; 21504], n: u32) -> Server {
+fn take_ca(s: Server, slots: &mut Slots, memory: &mut Storage, n: u32) -> Server {
     let mut out = [0u8; 284];
     let mut ca = [0u8; 284];
     let len = write_ca(&mut ca, n);
@@ -136,10 +128,9 @@ fn take_ca(s: Server, slots: &mut [usize; 200], memory: &mut [u8; 21504], n: u32
 }
 
 // 64 requests fill the list with 16 CAs; each CA behind them misses four more.
-fn missed(s: Server, slots: &mut [usize; 200], memory: &mut [u8; 21504]) {
+fn missed(s: Server, slots: &mut Slots, memory: &mut Storage) {
     let mut x = s;
-    let mut n: u32 = 0;
-    while n < 16403 {
+    for n in 0..16403u32 {
         x = take_ca(x, slots, memory, n);
         if n == 16 {
             print(queries::requests_of(memory, 0) as u64);
@@ -148,21 +139,20 @@ fn missed(s: Server, slots: &mut [usize; 200], memory: &mut [u8; 21504]) {
         if 16398 <= n {
             print(queries::missed_of(slots, 0) as u64);
         }
-        n += 1;
     }
 }
 
 // ---- the count of update requests
 // Of a slot, or the code that the query refuses with.
-fn print_updates(slots: &[usize; 200], slot: usize) {
+fn print_updates(slots: &Slots, slot: usize) {
     match queries::status_of(slots, slot) {
-        Status::Refused(f) => print(slots::answers::code(Outcome::Refused(f)) as u64),
-        Status::Shown(x) => print(x.updates as u64),
+        Ok(x) => print(x.updates as u64),
+        Err(f) => print(slots::answers::code(Err(f)) as u64),
     }
 }
 
 // A Hello of the peer that is alive for as long as a Hello can be.
-fn take_hello(s: Server, slots: &mut [usize; 200], memory: &mut [u8; 21504], time: u32) -> Server {
+fn take_hello(s: Server, slots: &mut Slots, memory: &mut Storage, time: u32) -> Server {
     let mut out = [0u8; 284];
     let mut hello = [0u8; 284];
     let n = write::write_hello(&mut hello, common(), 65535, 65535, true);
@@ -171,7 +161,7 @@ fn take_hello(s: Server, slots: &mut [usize; 200], memory: &mut [u8; 21504], tim
 }
 
 // The master's second CA, with O clear and no summaries: the slot is Aligned.
-fn take_last_ca(s: Server, slots: &mut [usize; 200], memory: &mut [u8; 21504]) -> Server {
+fn take_last_ca(s: Server, slots: &mut Slots, memory: &mut Storage) -> Server {
     let mut out = [0u8; 284];
     let mut ca = [0u8; 284];
     let flags = CaFlags {
@@ -184,33 +174,31 @@ fn take_last_ca(s: Server, slots: &mut [usize; 200], memory: &mut [u8; 21504]) -
     a.server
 }
 
-fn poll_at(s: Server, slots: &mut [usize; 200], memory: &mut [u8; 21504], time: u32) -> Server {
+fn poll_at(s: Server, slots: &mut Slots, memory: &mut Storage, time: u32) -> Server {
     let mut out = [0u8; 284];
     let a = events::poll(s, slots, memory, 0, time, &mut out);
     a.server
 }
 
 // An entry waits, and is never acknowledged: a poll every second writes an update request, but where our Hello is due, at 0 and at 65535.
-fn poll_often(s: Server, slots: &mut [usize; 200], memory: &mut [u8; 21504]) -> Server {
+fn poll_often(s: Server, slots: &mut Slots, memory: &mut Storage) -> Server {
     let mut x = s;
-    let mut time: u32 = 0;
-    while time < 65539 {
+    for time in 0..65539u32 {
         x = poll_at(x, slots, memory, time);
         if 65533 <= time {
             print_updates(slots, 0);
         }
-        time += 1;
     }
     x
 }
 
 // Then link down, which leaves the count, and a new Negotiate, which ends it; and a slot with no peer.
-fn updates(slots: &mut [usize; 200], memory: &mut [u8; 21504]) {
+fn updates(slots: &mut Slots, memory: &mut Storage) {
     let s = start(slots, memory, 65535);
     let a = take_hello(s, slots, memory, 0);
     let b = take_ca(a, slots, memory, 0);
     let c = take_last_ca(b, slots, memory);
-    let d = events::set(c, slots, memory, &[65u8], &[120u8]);
+    let d = events::set(c, slots, memory, b"A", b"x");
     let e = poll_often(d.server, slots, memory);
     let f = events::link_down(e, slots, memory, 0, 65539);
     print_updates(slots, 0);
@@ -222,7 +210,7 @@ fn updates(slots: &mut [usize; 200], memory: &mut [u8; 21504]) {
 }
 
 fn main() {
-    let mut slots = [0usize; 200];
+    let mut slots = table::empty();
     let mut memory = [0u8; 21504];
     let s = start(&mut slots, &mut memory, 10);
     let t = short_out(s, &mut slots, &mut memory);

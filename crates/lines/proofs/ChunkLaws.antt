@@ -13,7 +13,7 @@ use Rattle.rules.specs.Events.{run, items}
 use Rattle.rules.specs.Replay.{replay_record, settings_in, RecordKind, record_kind, Line, a_line, cut, line_of, server_after, starts_good, lines_from}
 use Rattle.memory.specs.Memory.{rows_in}
 use Rattle.slots.specs.declared.state.Server.{Server}
-use Rattle.slots.specs.Codes.{code_number}
+use Rattle.slots.specs.Codes.{code_number, written_of}
 use Rattle.server.specs.declared.answers.Answer.{Answer}
 use Rattle.server.specs.State.{server_of}
 use Rattle.server.specs.Hosts.{Hosted}
@@ -22,6 +22,7 @@ use Rattle.lines.specs.Text.{NumbersText, PutsNumbers, numbers_most, cut_text, L
 use Rattle.lines.specs.Lines.{Takes, Begins, events_from}
 use Rattle.lines.proofs.RunLaws.{run_kind, Went, went_run, went_host}
 use Rattle.lines.specs.Chunks.{records_in, lines_in, ends_with, first_line, Lined, Opens, Chunks}
+use Rattle.slots.specs.declared.state.Slot.{Slot}
 
 -- ---- text
 one_line : (l : Line) (t : List ℕ) → LineText l.numbers t → LinesText (l ∷ []) t
@@ -41,9 +42,9 @@ some_left at input = by (ltb at (length input)) refl where
   by false e = rw (drop_of_length-le input (ltb-false at (length input) e))
 
 -- the line of a record that was taken
-pub lined : {kind : RecordKind} {number : ℕ} {s : Server} {slots slots' before after out out' : List ℕ} {a : Answer} {at end : ℕ} {text text' : List ℕ}
+pub lined : {kind : RecordKind} {number : ℕ} {s : Server} {slots slots' : List Slot} {before after out out' : List ℕ} {a : Answer} {at end : ℕ} {text text' : List ℕ}
     → Takes kind s slots slots' before after out out' a
-    → PutsNumbers (number ∷ code_number a.outcome ∷ a.written ∷ rows_used (rows_in after) ∷ []) at text text' end → end ≤ at + 84
+    → PutsNumbers (number ∷ code_number a.outcome ∷ written_of a.outcome ∷ rows_used (rows_in after) ∷ []) at text text' end → end ≤ at + 84
     → Lined kind number s slots slots' before after at text text' (record { server = a.server; text = end })
 lined {kind} {number} {s} {slots} {slots'} {before} {after} {out} {out'} {a} {at} {end} {text} {text'} t p m = record {
   server = t.server;
@@ -52,7 +53,7 @@ lined {kind} {number} {s} {slots} {slots'} {before} {after} {out} {out'} {a} {at
     octets = p.octets;
     means = λ k e. one_line (line_of kind k (server_of s slots before)) p.octets
         (subst (λ (l : List ℕ). LineText l p.octets) (t.line k)
-        (subst (λ (n : ℕ). NumbersText (n ∷ code_number a.outcome ∷ a.written ∷ rows_used (rows_in after) ∷ []) p.octets) e p.means));
+        (subst (λ (n : ℕ). NumbersText (n ∷ code_number a.outcome ∷ written_of a.outcome ∷ rows_used (rows_in after) ∷ []) p.octets) e p.means));
     put = p.put;
   };
   most = m;
@@ -71,23 +72,25 @@ pub record Said (ends : Bool) (input : List ℕ) (n number : ℕ) (x₀ : rules.
   pub tells : (i : ℕ) → number ≡ i % numbers_most → (u : List ℕ) → LinesText (lines_in ends left (i + done) x (drop at input)) u
       → LinesText (lines_in ends n i x₀ input) (octets ++ u)
 
-pub said_none : (ends : Bool) (input : List ℕ) (n number : ℕ) (x : rules.Server) (text : List ℕ) → Said ends input n number x text x 0 n number 0 text
-said_none ends input n number x text = record {
-  done = 0;
-  sum = omega arith;
-  place = omega arith;
-  count = λ i e. let z : i + 0 ≡ i = omega arith in e ∙ ap (λ (j : ℕ). j % numbers_most) (sym z);
-  octets = [];
-  put = put_none text 0;
-  fits = omega arith;
-  tells = λ i e u h. let z : i + 0 ≡ i = omega arith in subst (λ (j : ℕ). LinesText (lines_in ends n j x input) u) z h;
-}
+pub said_none : (ends : Bool) (input : List ℕ) (n left number : ℕ) (x : rules.Server) (text : List ℕ) → left ≡ n
+    → Said ends input n number x text x 0 left number 0 text
+said_none ends input n left number x text same =
+    subst (λ (j : ℕ). Said ends input n number x text x 0 j number 0 text) (sym same) (record {
+      done = 0;
+      sum = omega arith;
+      place = omega arith;
+      count = λ i e. let z : i + 0 ≡ i = omega arith in e ∙ ap (λ (j : ℕ). j % numbers_most) (sym z);
+      octets = [];
+      put = put_none text 0;
+      fits = omega arith;
+      tells = λ i e u h. let z : i + 0 ≡ i = omega arith in subst (λ (j : ℕ). LinesText (lines_in ends n j x input) u) z h;
+    })
 
-module _ {ends : Bool} {input : List ℕ} {n number : ℕ} {x₀ : rules.Server} {text₀ : List ℕ} {s : Server} {slots before : List ℕ} {at left k end : ℕ}
+module _ {ends : Bool} {input : List ℕ} {n number : ℕ} {x₀ : rules.Server} {text₀ : List ℕ} {s : Server} {slots : List Slot} {before : List ℕ} {at left k end : ℕ}
     {text : List ℕ}
     (w : Said ends input n number x₀ text₀ (server_of s slots before) at left k end text) where
   -- one record more: `first` is the record at `at`
-  module _ (first : List ℕ) (less : ℕ) {slots' after text' : List ℕ} {r : Stepped} (room : 84 * n ≤ length text₀) (f : first ≡ part input at 292)
+  module _ (first : List ℕ) (less : ℕ) {slots' : List Slot} {after text' : List ℕ} {r : Stepped} (room : 84 * n ≤ length text₀) (f : first ≡ part input at 292)
       (e : left ≡ suc less)
       (l : Lined (record_kind first) k s slots slots' before after end text text' r) where
     abbrev x : rules.Server
@@ -105,19 +108,19 @@ module _ {ends : Bool} {input : List ℕ} {n number : ℕ} {x₀ : rules.Server}
         ∙ ap (λ (v : List ℕ). line_of (record_kind v) i x ∷ lines_in ends less (suc i) (server_after (record_kind v) x) (drop (at + 292) input)) (sym f)
         ∙ ap (λ (z : rules.Server). line_of (record_kind first) i x ∷ lines_in ends less (suc i) z (drop (at + 292) input)) (sym l.server)
 
-    pub said_more : {k' : ℕ} → k' ≡ (k + 1) % numbers_most → Said ends input n number x₀ text₀ y (at + 292) less k' r.text text'
-    said_more {k'} next =
+    pub said_more : {k' next : ℕ} → next ≡ at + 292 → k' ≡ (k + 1) % numbers_most → Said ends input n number x₀ text₀ y next less k' r.text text'
+    said_more {k'} {next} to count =
         let p = l.prints in
         let a : end ≡ 0 + length w.octets = w.put.next in
         let b : r.text ≡ end + length p.octets = p.put.next in
         let m = l.most in
         let c = w.fits in
         let d = w.sum in
-        record {
+        subst (λ (j : ℕ). Said ends input n number x₀ text₀ y j less k' r.text text') (sym to) (record {
           done = w.done + 1;
           sum = omega arith;
           place = let q = w.place in omega arith;
-          count = λ i q. let g = w.count i q in omega arith;
+          count = λ i q. let g = w.count i q in omega (arith, count);
           octets = w.octets ++ p.octets;
           put = then_put text₀ 0 w.octets p.octets (omega arith) w.put p.put;
           fits = simp length-append (omega arith);
@@ -128,7 +131,7 @@ module _ {ends : Bool} {input : List ℕ} {n number : ℕ} {x₀ : rules.Server}
               (subst (λ (ls : List Line). LinesText ls (p.octets ++ u)) (sym (split (i + w.done)))
               (lines_append (line_of (record_kind first) (i + w.done) x ∷ []) (lines_in ends less (suc (i + w.done)) y (drop (at + 292) input)) p.octets u
               (p.means (i + w.done) (w.count i q)) (subst (λ (j : ℕ). LinesText (lines_in ends less j y (drop (at + 292) input)) u) g h))));
-        }
+        })
 
 -- none is left: `cut`, if something is left of an input that ends here
 cut_text_lem : (c : Bool) → LinesText (pick c (cut ∷ []) []) (pick c cut_text [])
@@ -158,7 +161,7 @@ first_means : (input : List ℕ) (b : Bool) → starts_good input ≡ b → (t :
     → LineText (pick b (a_line 0 0 [] (fresh (settings_in input))) cut).numbers t → LinesText (first_line input ∷ []) t
 first_means input b e t h = rw e (one_line (pick b (a_line 0 0 [] (fresh (settings_in input))) cut) t h)
 
-module _ {input slots slots' before after text text' : List ℕ} {a : Answer} {n : ℕ} (b : Begins input slots slots' before after a) where
+module _ {input : List ℕ} {slots slots' : List Slot} {before after text text' : List ℕ} {a : Answer} {n : ℕ} (b : Begins input slots slots' before after a) where
   pub opens : starts_good input ≡ true → PutsNumbers (0 ∷ 0 ∷ 0 ∷ 0 ∷ []) 0 text text' n
       → Opens input slots slots' before after text text' (record { answer = a; text = n })
   opens g p = record { begins = b; prints = record { octets = p.octets; means = λ k e. first_means input true g p.octets p.means; put = p.put } }
@@ -204,19 +207,19 @@ records_few len n e = by (leb (len / 292) 224) refl e where
   by true h q = (omega (arith, leb-true (len / 292) 224 h), omega arith)
   by false h q = (omega arith, omega (arith, leb-false (len / 292) 224 h))
 
-pub chunks : {input : List ℕ} {last b : Bool} {number n at left k end r : ℕ} {s x : Server} {slots slots' before after text mid text' : List ℕ}
+pub chunks : {input : List ℕ} {last b : Bool} {number n at taken left k end r : ℕ} {s x : Server} {slots slots' : List Slot} {before after text mid text' : List ℕ}
     → n ≡ records_in input → Said (ends_with last input) input n number (server_of s slots before) text (server_of x slots' after) at left k end mid
-    → Went input 0 n s slots before at left x slots' after → left ≡ 0 → 84 * n ≤ length text → b ≡ (ends_with last input && ltb at (length input))
-    → Put (pick b cut_text []) end mid text' r
-    → Chunks input last number s slots slots' before after text text' (record { server = x; number = k; taken = at; text = r })
-chunks {input} {last} {b} {number} {n} {at} {left} {k} {end} {r} {s} {x} {slots} {slots'} {before} {after} {text} {mid} {text'} e w g z room h p =
+    → Went input 0 n s slots before at left x slots' after → left ≡ 0 → 84 * n ≤ length text
+    → taken ≡ at → b ≡ (ends_with last input && ltb taken (length input)) → Put (pick b cut_text []) end mid text' r
+    → Chunks input last number s slots slots' before after text text' (record { server = x; number = k; taken = taken; text = r })
+chunks {input} {last} {b} {number} {n} {at} {taken} {left} {k} {end} {r} {s} {x} {slots} {slots'} {before} {after} {text} {mid} {text'} e w g z room q h p =
     let d = w.sum in
     let all : w.done ≡ records_in input = omega (arith, e) in
     record {
       server = went_run g z ∙ ap (λ (m : ℕ). run (server_of s slots before) (events_from m input)) e;
       host = λ c is f. subst (λ (m : ℕ). Hosted c x slots' after (is ++ items (server_of s slots before) (events_from m input))) e (went_host g z c is f);
       next = λ i q. w.count i q ∙ ap (λ (m : ℕ). (i + m) % numbers_most) all;
-      rest = w.place ∙ ap (λ (m : ℕ). 292 * m) all;
+      rest = q ∙ w.place ∙ ap (λ (m : ℕ). 292 * m) all;
       prints = subst (λ (m : ℕ). Prints number (λ i. lines_in (ends_with last input) m i (server_of s slots before) input) 0 text text' r) e
-          (said_all w z h room p);
+          (said_all w z (h ∙ ap (λ (j : ℕ). ends_with last input && ltb j (length input)) q) room p);
     }

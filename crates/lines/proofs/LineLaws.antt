@@ -1,6 +1,6 @@
 -- A record taken: what it is by its kind, and what its event's contract says of its line.
 -- Assumes nothing.
-use Rattle.std.proofs.Common.{◌≡◌, ℕ, ◌<◌, ◌≤◌, Bool, true, false, not, ◌||◌, eqb, List, [], ◌∷◌, length, sym, refl, ap, ◌∙◌, subst, append-nil, arith}
+use Rattle.std.proofs.Common.{◌≡◌, ℕ, ◌<◌, ◌≤◌, Bool, true, false, not, ◌||◌, eqb, Err, List, [], ◌∷◌, length, sym, refl, ap, ◌∙◌, subst, append-nil, arith}
 use Rattle.std.proofs.Common.{eq-eqb, ne_eqb, eqb-true, le-leb}
 use mathlib.Core.Bool.{false≢true}
 use borrow.Author.Tests.{not-true, lt-leb, eqb-false}
@@ -15,16 +15,16 @@ use Rattle.rules.specs.Replay.{kind_at, slot_octet, time_at, settings_in, packet
 use Rattle.slots.specs.declared.state.Settings.{Settings}
 use Rattle.slots.specs.declared.state.Server.{Server}
 use Rattle.slots.specs.declared.answers.Failure.TheVariants.{Size}
-use Rattle.slots.specs.declared.answers.Outcome.TheVariants.{Refused}
 use Rattle.slots.specs.State.{settings_of}
 use Rattle.server.specs.declared.answers.Answer.{Answer}
 use Rattle.server.specs.State.{server_of, Does, DoesOut, Starts}
 use Rattle.server.specs.Hosts.{uses_out, started}
 use Rattle.server.proofs.HostLaws.{silent, hosted_call, hosted_out}
-use Rattle.lines.specs.Lines.{no_settings, Untimed, Begins, Takes}
+use Rattle.lines.specs.Lines.{no_settings, Begins, Takes}
+use Rattle.slots.specs.declared.state.Slot.{Slot}
 
 -- ---- a record's event
-module _ {e : Event} {s : Server} {slots slots' before after : List ℕ} {r : Answer} where
+module _ {e : Event} {s : Server} {slots slots' : List Slot} {before after : List ℕ} {r : Answer} where
   -- an event with an out buffer
   pub takes_out : {out out' : List ℕ} {kind : RecordKind} → an_event e ≡ kind → DoesOut e s slots slots' before after out out' r
       → Takes kind s slots slots' before after out out' r
@@ -53,9 +53,8 @@ module _ {e : Event} {s : Server} {slots slots' before after : List ℕ} {r : An
       })
 
 -- a record of no event
-pub takes_none : {s : Server} {slots before out : List ℕ} {r : Answer} {kind : RecordKind} → other ≡ kind → r
-    ≡ record { server = s; outcome = Refused Size; written = 0 }
-    → Takes kind s slots slots before before out out r
+pub takes_none : {s : Server} {slots : List Slot} {before out : List ℕ} {r : Answer} {kind : RecordKind} → other ≡ kind
+    → r ≡ record { server = s; outcome = Err Size } → Takes kind s slots slots before before out out r
 unfolding written
 takes_none {s} {slots} {before} {out} {r} h e =
     subst (λ (k : RecordKind). Takes k s slots slots before before out out r) h
@@ -63,56 +62,37 @@ takes_none {s} {slots} {before} {out} {r} h e =
     (record { server = refl; line = λ n. refl; octets = λ n. refl; same = λ _. (refl, (refl, refl)); host = λ c is g. rw (append-nil is) g }))
 
 -- ---- what a record is
-module _ (r : List ℕ) (k : ℕ) (h : k ≡ kind_at r) where
-  is : (n : ℕ) → k ≡ n → eqb (kind_at r) n ≡ true
-  is n e = eq-eqb (kind_at r) n (sym h ∙ e)
+module _ (r : List ℕ) where
+  pub kind_1 : (slot time : ℕ) → slot ≡ slot_octet r → time ≡ time_at r → kind_at r ≡ 1 → an_event (link_up slot time) ≡ record_kind r
+  kind_1 slot time p q e = rw e (λ i. an_event (link_up (p i) (q i)))
 
-  isnt : (n : ℕ) → (k ≡ n → ⊥) → eqb (kind_at r) n ≡ false
-  isnt n e = ne_eqb (kind_at r) n (λ g. e (h ∙ g))
+  pub kind_2 : (slot time : ℕ) → slot ≡ slot_octet r → time ≡ time_at r → kind_at r ≡ 2 → an_event (link_down slot time) ≡ record_kind r
+  kind_2 slot time p q e = rw e (λ i. an_event (link_down (p i) (q i)))
 
-  pub kind_1 : (slot time : ℕ) → slot ≡ slot_octet r → time ≡ time_at r → k ≡ 1 → an_event (link_up slot time) ≡ record_kind r
-  kind_1 slot time p q e = rw (is 1 e) (λ i. an_event (link_up (p i) (q i)))
+  pub kind_3 : (slot time : ℕ) (p : List ℕ) (room : ℕ) → slot ≡ slot_octet r → time ≡ time_at r → p ≡ packet_in r → room ≡ 284 → kind_at r ≡ 3
+      → an_event (packet slot time p room) ≡ record_kind r
+  kind_3 slot time p room f g h k e = rw e (λ i. an_event (packet (f i) (g i) (h i) (k i)))
 
-  pub kind_2 : (slot time : ℕ) → slot ≡ slot_octet r → time ≡ time_at r → (k ≡ 1 → ⊥) → k ≡ 2 → an_event (link_down slot time) ≡ record_kind r
-  kind_2 slot time p q a e = rw (isnt 1 a, is 2 e) (λ i. an_event (link_down (p i) (q i)))
+  pub kind_4 : (slot time room : ℕ) → slot ≡ slot_octet r → time ≡ time_at r → room ≡ 284 → kind_at r ≡ 4 → an_event (poll slot time room) ≡ record_kind r
+  kind_4 slot time room f g k e = rw e (λ i. an_event (poll (f i) (g i) (k i)))
 
-  pub kind_3 : (k ≡ 1 → ⊥) → (k ≡ 2 → ⊥) → k ≡ 3 → an_event (packet (slot_octet r) (time_at r) (packet_in r) 284) ≡ record_kind r
-  kind_3 a b e = rw (isnt 1 a, isnt 2 b, is 3 e)
+  pub kind_5 : (key payload : List ℕ) → key ≡ key_in r → payload ≡ payload_in r → kind_at r ≡ 5 → an_event (set key payload) ≡ record_kind r
+  kind_5 key payload p q e = rw e (λ i. an_event (set (p i) (q i)))
 
-  pub kind_4 : (k ≡ 1 → ⊥) → (k ≡ 2 → ⊥) → (k ≡ 3 → ⊥) → k ≡ 4 → an_event (poll (slot_octet r) (time_at r) 284) ≡ record_kind r
-  kind_4 a b d e = rw (isnt 1 a, isnt 2 b, isnt 3 d, is 4 e)
+  pub kind_6 : (key : List ℕ) → key ≡ key_in r → kind_at r ≡ 6 → an_event (withdraw key) ≡ record_kind r
+  kind_6 key p e = rw e (λ i. an_event (withdraw (p i)))
 
-  pub untimed : (k ≡ 1 → ⊥) → (k ≡ 2 → ⊥) → (k ≡ 3 → ⊥) → (k ≡ 4 → ⊥) → Untimed r
-  untimed a b d e = (λ g. a (h ∙ g), (λ g. b (h ∙ g), (λ g. d (h ∙ g), λ g. e (h ∙ g))))
+  pub kind_7 : (key : List ℕ) → key ≡ key_in r → kind_at r ≡ 7 → an_event (purge key) ≡ record_kind r
+  kind_7 key p e = rw e (λ i. an_event (purge (p i)))
 
-  module _ (u : Untimed r) where
-    no_1 : eqb (kind_at r) 1 ≡ false
-    no_1 = ne_eqb (kind_at r) 1 u.0
+  pub kind_8 : (slot : ℕ) (id : List ℕ) → slot ≡ slot_octet r → id ≡ part r 8 4 → kind_at r ≡ 8 → an_event (add_peer slot id) ≡ record_kind r
+  kind_8 slot id p q e = rw e (λ i. an_event (add_peer (p i) (q i)))
 
-    no_2 : eqb (kind_at r) 2 ≡ false
-    no_2 = ne_eqb (kind_at r) 2 u.1.0
-
-    no_3 : eqb (kind_at r) 3 ≡ false
-    no_3 = ne_eqb (kind_at r) 3 u.1.1.0
-
-    no_4 : eqb (kind_at r) 4 ≡ false
-    no_4 = ne_eqb (kind_at r) 4 u.1.1.1
-
-    pub kind_5 : (key payload : List ℕ) → key ≡ key_in r → payload ≡ payload_in r → k ≡ 5 → an_event (set key payload) ≡ record_kind r
-    kind_5 key payload p q e = rw (no_1, no_2, no_3, no_4, is 5 e) (λ i. an_event (set (p i) (q i)))
-
-    pub kind_6 : (key : List ℕ) → key ≡ key_in r → (k ≡ 5 → ⊥) → k ≡ 6 → an_event (withdraw key) ≡ record_kind r
-    kind_6 key p a e = rw (no_1, no_2, no_3, no_4, isnt 5 a, is 6 e) (λ i. an_event (withdraw (p i)))
-
-    pub kind_7 : (key : List ℕ) → key ≡ key_in r → (k ≡ 5 → ⊥) → (k ≡ 6 → ⊥) → k ≡ 7 → an_event (purge key) ≡ record_kind r
-    kind_7 key p a b e = rw (no_1, no_2, no_3, no_4, isnt 5 a, isnt 6 b, is 7 e) (λ i. an_event (purge (p i)))
-
-    pub kind_8 : (slot : ℕ) (id : List ℕ) → slot ≡ slot_octet r → id ≡ part r 8 4 → (k ≡ 5 → ⊥) → (k ≡ 6 → ⊥) → (k ≡ 7 → ⊥) → k ≡ 8
-        → an_event (add_peer slot id) ≡ record_kind r
-    kind_8 slot id p q a b d e = rw (no_1, no_2, no_3, no_4, isnt 5 a, isnt 6 b, isnt 7 d, is 8 e) (λ i. an_event (add_peer (p i) (q i)))
-
-    pub kind_none : (k ≡ 5 → ⊥) → (k ≡ 6 → ⊥) → (k ≡ 7 → ⊥) → (k ≡ 8 → ⊥) → other ≡ record_kind r
-    kind_none a b d e = rw (no_1, no_2, no_3, no_4, isnt 5 a, isnt 6 b, isnt 7 d, isnt 8 e)
+  pub kind_none : ((kind_at r ≡ 1) → ⊥) → ((kind_at r ≡ 2) → ⊥) → ((kind_at r ≡ 3) → ⊥) → ((kind_at r ≡ 4) → ⊥) → ((kind_at r ≡ 5) → ⊥)
+      → ((kind_at r ≡ 6) → ⊥) → ((kind_at r ≡ 7) → ⊥) → ((kind_at r ≡ 8) → ⊥) → other ≡ record_kind r
+  kind_none a b c d e f g h =
+      let k = kind_at r in
+      rw (ne_eqb k 1 a, ne_eqb k 2 b, ne_eqb k 3 c, ne_eqb k 4 d, ne_eqb k 5 e, ne_eqb k 6 f, ne_eqb k 7 g, ne_eqb k 8 h)
 
 -- ---- the first record
 -- no whole record, or one of another kind
@@ -133,7 +113,7 @@ two_codes false = refl
 code_picks : (s : rules.Settings) → settings_code s ≡ pick (eqb (settings_code s) 0) 0 17
 code_picks s = two_codes (not (eqb (length s.id) id_length) || (eqb s.interval 0 || eqb s.factor 0))
 
-module _ {slots slots' before after : List ℕ} {r : Answer} where
+module _ {slots slots' : List Slot} {before after : List ℕ} {r : Answer} where
   pub begins_not : (input : List ℕ) (s : Settings) → starts_good input ≡ false → s ≡ no_settings → Starts s slots slots' before after r
       → Begins input slots slots' before after r
   begins_not input s h e x = record {

@@ -16,6 +16,7 @@ use Rattle.lines.specs.declared.chunk.Stepped.{Stepped}
 use Rattle.lines.specs.declared.chunk.Chunk.{Chunk}
 use Rattle.lines.specs.Text.{numbers_most, Prints}
 use Rattle.lines.specs.Lines.{Begins, items_of, events_from}
+use Rattle.slots.specs.declared.state.Slot.{Slot}
 
 -- ---- the lines of a chunk
 -- whole records that are taken at once
@@ -42,19 +43,19 @@ ends_with last input = last && nat_le (length input / replay_record) chunk_recor
 abbrev pub first_line : List ℕ → Line
 first_line input = pick (starts_good input) (a_line 0 0 [] (fresh (settings_in input))) cut
 
-pub record Opens (input slots slots' before after text text' : List ℕ) (r : Opened) : Type 0 where
+pub record Opens (input : List ℕ) (slots slots' : List Slot) (before after text text' : List ℕ) (r : Opened) : Type 0 where
   pub begins : Begins input slots slots' before after r.answer
   pub prints : Prints 0 (λ _. first_line input ∷ []) 0 text text' r.text
 
 -- one record and its line
-pub record Lined (kind : RecordKind) (number : ℕ) (s : Server) (slots slots' before after : List ℕ) (at : ℕ) (text text' : List ℕ) (r : Stepped) : Type 0 where
+pub record Lined (kind : RecordKind) (number : ℕ) (s : Server) (slots slots' : List Slot) (before after : List ℕ) (at : ℕ) (text text' : List ℕ) (r : Stepped) : Type 0 where
   pub server : server_of r.server slots' after ≡ server_after kind (server_of s slots before)
   pub host : (c : Settings) (is : List Item) → Hosted c s slots before is → Hosted c r.server slots' after (is ++ items_of kind (server_of s slots before))
   pub prints : Prints number (λ k. line_of kind k (server_of s slots before) ∷ []) at text text' r.text
   pub most : r.text ≤ at + 84
 
 -- a chunk: the server, slots and memory of its events, whatever a host did before it; what was taken of it, the next event number, the lines
-pub record Chunks (input : List ℕ) (last : Bool) (number : ℕ) (s : Server) (slots slots' before after text text' : List ℕ) (r : Chunk) : Type 0 where
+pub record Chunks (input : List ℕ) (last : Bool) (number : ℕ) (s : Server) (slots slots' : List Slot) (before after text text' : List ℕ) (r : Chunk) : Type 0 where
   pub server : server_of r.server slots' after ≡ run (server_of s slots before) (events_from (records_in input) input)
   pub host : (c : Settings) (is : List Item) → Hosted c s slots before is
       → Hosted c r.server slots' after (is ++ items (server_of s slots before) (events_from (records_in input) input))

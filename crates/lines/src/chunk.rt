@@ -5,13 +5,15 @@ ghost use Rattle.laws.specs.Puts.{Put};
 ghost use Rattle.rules.specs.Server.{rows_used};
 ghost use Rattle.rules.specs.Replay.{record_kind};
 ghost use Rattle.memory.specs.Memory.{rows_in};
-ghost use Rattle.slots.specs.Codes.{code_number};
+ghost use Rattle.slots.specs.Codes.{code_number, written_of};
 ghost use Rattle.lines.specs.Text.{cut_text, PutsNumbers};
 ghost use Rattle.lines.specs.Chunks.{Opens, Lined, Chunks};
 
 use crate::{take, text};
+use memory::Storage;
 use server::answers::Answer;
 use slots::state::Server;
+use table::Slots;
 
 // The answer to the first record, and how many octets of text there are.
 #[derive(Clone, Copy)]
@@ -37,63 +39,49 @@ pub struct Chunk {
 }
 
 // The line of an answer.
-fn put_answer(text: &mut [u8], at: usize, number: u64, a: Answer, memory: &[u8; 21504]) -> usize
+fn put_answer(text: &mut [u8], at: usize, number: u64, a: Answer, memory: &Storage) -> usize
     requires { at + 84 ≤ length text.old }
-    ensures puts_numbers { PutsNumbers (number ∷ code_number a.outcome ∷ a.written ∷ rows_used (rows_in memory.now) ∷ []) at
+    ensures puts_numbers { PutsNumbers (number ∷ code_number a.outcome ∷ written_of a.outcome ∷ rows_used (rows_in memory.now) ∷ []) at
         text.old
         text.new result }
     ensures most { result ≤ at + 84 }
 {
-    let outcome = a.outcome;
-    let code = slots::answers::code(outcome);
     text::put_line(
         text,
         at,
         number,
-        code,
-        a.written,
+        slots::answers::code(a.outcome),
+        a.outcome.unwrap_or(0),
         server::queries::rows_used(memory),
     )
 }
 
-// `cut`, if it is wanted.
+// `cut`, if it is wanted: a function, since the law of what was put is about one place.
 fn put_cut(text: &mut [u8], at: usize, wanted: bool) -> usize
     requires { at + 4 ≤ length text.old }
     ensures { Put (pick wanted cut_text []) at text.old text.new result }
 {
     if wanted {
-        return octets::put(text, at, &[99u8, 117, 116, 10]);
+        return octets::put(text, at, b"cut\n");
     }
     at
 }
 
-fn open_in(
-    slots: &mut [usize; 200],
-    memory: &mut [u8; 21504],
-    input: &[u8],
-    text: &mut [u8],
-) -> Opened
+fn open_in(slots: &mut Slots, memory: &mut Storage, input: &[u8], text: &mut [u8]) -> Opened
     requires { length text.old ≡ 20480 }
     ensures { Opens input.now slots.old slots.new memory.old memory.new text.old
         text.new result }
 {
     let answer = take::begin(slots, memory, input);
-    let outcome = answer.outcome;
-    if slots::answers::is_taken(outcome) {
-        let n = text::put_line(text, 0, 0, 0, 0, 0);
-        return Opened { answer, text: n };
-    }
-    let n = put_cut(text, 0, true);
-    Opened { answer, text: n }
+    let end = match answer.outcome {
+        Ok(_) => text::put_line(text, 0, 0, 0, 0, 0),
+        Err(_) => put_cut(text, 0, true),
+    };
+    Opened { answer, text: end }
 }
 
 // The first record and its line; `cut` where it is not accepted settings.
-pub fn open(
-    slots: &mut [usize; 200],
-    memory: &mut [u8; 21504],
-    input: &[u8],
-    text: &mut [u8; 20480],
-) -> Opened
+pub fn open(slots: &mut Slots, memory: &mut Storage, input: &[u8], text: &mut [u8; 20480]) -> Opened
     ensures { Opens input.now slots.old slots.new memory.old memory.new text.old
         text.new result }
 {
@@ -103,8 +91,8 @@ pub fn open(
 // One record and its line.
 fn one(
     s: Server,
-    slots: &mut [usize; 200],
-    memory: &mut [u8; 21504],
+    slots: &mut Slots,
+    memory: &mut Storage,
     r: &[u8],
     out: &mut [u8; 284],
     number: u64,
@@ -116,39 +104,31 @@ fn one(
         text.old text.new result }
 {
     let a = take::take(s, slots, memory, r, out);
-    let end = put_answer(text, at, number, a, memory);
-    let server = a.server;
-    Stepped { server, text: end }
+    let text = put_answer(text, at, number, a, memory);
+    Stepped {
+        server: a.server,
+        text,
+    }
 }
 
 // The whole records that are taken at once.
 fn records_in(len: usize) -> usize
     ensures { result ≡ pick (nat_le (len / 292) 224) (len / 292) 224 }
 {
-    let n = len / 292;
-    if n <= 224 {
-        return n;
-    }
-    224
+    (len / 292).min(224)
 }
 
 // Whether the input ends in this chunk, with all its whole records taken, and something is left.
 fn ends_short(last: bool, len: usize, at: usize) -> bool
     ensures { result ≡ ((last && nat_le (len / 292) 224) && nat_lt at len) }
 {
-    if !last {
-        return false;
-    }
-    if 224 < len / 292 {
-        return false;
-    }
-    at < len
+    last && len / 292 <= 224 && at < len
 }
 
 fn replay_in(
     s: Server,
-    slots: &mut [usize; 200],
-    memory: &mut [u8; 21504],
+    slots: &mut Slots,
+    memory: &mut Storage,
     input: &[u8],
     last: bool,
     number: u64,
@@ -160,41 +140,31 @@ fn replay_in(
 {
     let mut out = [0u8; 284];
     let mut x = s;
-    let mut at: usize = 0;
     let mut end: usize = 0;
-    let mut left = records_in(input.len());
     let mut k = number;
-    while left > 0 {
-        let a = one(
-            x,
-            slots,
-            memory,
-            octets::part_of(input, at, 292),
-            &mut out,
-            k,
-            text,
-            end,
-        );
+    let n = records_in(input.len());
+    for i in 0..n {
+        let r = octets::part_of(input, i * 292, 292);
+        let a = one(x, slots, memory, r, &mut out, k, text, end);
         x = a.server;
         end = a.text;
-        at += 292;
-        left -= 1;
-        k = std::num::wrapping_add_u64(k, 1);
+        k = k.wrapping_add(1);
     }
-    let n = put_cut(text, end, ends_short(last, input.len(), at));
+    let taken = n * 292;
+    let end = put_cut(text, end, ends_short(last, input.len(), taken));
     Chunk {
         server: x,
         number: k,
-        taken: at,
-        text: n,
+        taken,
+        text: end,
     }
 }
 
 // The whole records of a chunk behind the first record, at most 224 of them, and their lines. `last`: the input ends with it.
 pub fn replay(
     s: Server,
-    slots: &mut [usize; 200],
-    memory: &mut [u8; 21504],
+    slots: &mut Slots,
+    memory: &mut Storage,
     input: &[u8],
     last: bool,
     number: u64,

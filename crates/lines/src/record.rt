@@ -7,6 +7,7 @@ ghost use Rattle.slots.specs.State.{settings_of};
 
 use slots::state::Settings;
 
+// A function for each field of a record: its contract names the field's place in document 01.
 pub fn kind(r: &[u8]) -> u8
     ensures { result ≡ replay.kind_at r.now }
 {
@@ -38,7 +39,7 @@ fn part(r: &[u8], at: usize, n: usize, most: usize) -> &[u8]
     if n <= most {
         return octets::part_of(r, at, n);
     }
-    octets::first(r, 0)
+    &[]
 }
 
 pub fn packet(r: &[u8]) -> &[u8]
@@ -69,16 +70,11 @@ pub fn settings(r: &[u8]) -> Settings
     requires { 12 ≤ length r.now }
     ensures { settings_of result ≡ replay.settings_in r.now }
 {
-    let own = octets::array4(id(r));
-    let protocol = octets::field2(r, 12);
-    let group = octets::field2(r, 14);
-    let interval = octets::field2(r, 16);
-    let factor = octets::field2(r, 18);
     Settings {
-        id: own,
-        protocol,
-        group,
-        interval,
-        factor,
+        id: octets::array4(id(r)),
+        protocol: octets::field2(r, 12),
+        group: octets::field2(r, 14),
+        interval: octets::field2(r, 16),
+        factor: octets::field2(r, 18),
     }
 }

@@ -22,7 +22,7 @@ fn digit(d: u64) -> u8
     48 + d as u8
 }
 
-// The same: nearly every number of a line is short.
+// The same: nearly every number of a line is short, and `put_long` alone is slower.
 pub fn put_number(text: &mut [u8], at: usize, n: u64, behind: u8) -> usize
     requires { at + 21 ≤ length text.old }
     ensures puts_number { PutsNumber n behind at text.old text.new result }

@@ -1,4 +1,3 @@
-pub mod TagLaws
 pub mod FirstLaws
 pub mod NameLaws
 pub mod SearchLaws

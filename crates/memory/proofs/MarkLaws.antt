@@ -1,7 +1,12 @@
 -- Marks by their octets: what is read of them, and what an octet of marks put in place leaves.
 -- Assumes nothing.
-use Rattle.std.proofs.Common.{◌≡◌, ℕ, ◌+◌, ◌<◌, ◌≤◌, Bool, true, false, ◌||◌, eqb, List, ◌∷◌, length, drop, set, sym, refl, ap, ◌∙◌, subst, add-one, arith, drop_of_length-le, drop-cons, get_or-set_other, get_or-set_same, le-ltb, lt-ltb}
+use Rattle.std.proofs.Common.{◌≡◌, ℕ, ◌+◌, ◌<◌, ◌≤◌, Bool, true, false, ◌||◌, eqb, List, ◌∷◌, length, drop, set, ℤ, pos, negsuc, sym, refl, ap, ◌∙◌, subst, add-one, arith, drop_of_length-le, drop-cons, get_or-set_other, get_or-set_same, le-ltb, lt-ltb}
 use mathlib.Core.Bool.{false≢true}
+use borrow.Author.Tests.{ltb-false}
+use lib.Signed.{lt_z}
+use Rattle.std.specs.Ordering.{int_eq}
+use Rattle.std.proofs.lemmas.Bool.Decides.{Decides-int_eq}
+use Rattle.laws.proofs.Integers.{not_less_same}
 use lib.Bits.{bit_or}
 use lib.Seq.{set-get_or}
 use Rattle.laws.specs.Choice.{pick}
@@ -44,9 +49,6 @@ module _ (s : List ℕ) where
   pub record MarksTo (i all : ℕ) : Type 0 where
     pub within : i ≤ rows_most
     pub marks : (k : ℕ) → has (waits_for k) (rows_in s) ≡ (is_marked all k || has (waits_for k) (drop i (rows_in s)))
-
-  pub marks_none : MarksTo 0 0
-  marks_none = record { within = omega arith; marks = λ k. ap (λ b. b || has (waits_for k) (rows_in s)) (sym (none_at k)) }
 
   or_assoc : (a b c : Bool) → (a || (b || c)) ≡ ((a || b) || c)
   or_assoc true b c = refl
@@ -104,6 +106,13 @@ pub changed_not : (f : Row → Row) (s : List ℕ) (i : ℕ) → f (row_at (rows
 unfolding memory_of
 changed_not f s i e = ap (λ (rows : List Row). with_rows rows (memory_of s)) (sym (ap (set (rows_in s) i) e ∙ set-get_or (rows_in s) i free))
 
+-- two numbers of which none is less are one
+apart : (a b : ℤ) → lt_z a b ≡ false → lt_z b a ≡ false → a ≡ b
+apart (pos a) (pos b) f g = let x = ltb-false a b f in let y = ltb-false b a g in let z : a ≡ b = omega arith in ap pos z
+apart (pos a) (negsuc b) f g = absurd (false≢true (sym g))
+apart (negsuc a) (pos b) f g = absurd (false≢true (sym f))
+apart (negsuc a) (negsuc b) f g = let x = ltb-false b a f in let y = ltb-false a b g in let z : a ≡ b = omega arith in ap negsuc z
+
 module _ (s : List ℕ) (i : ℕ) (h : i < rows_most) where
   -- the marks put are those that were, but for slot k
   pub marks_on : (k b r : ℕ) (v : Bool) → b ≡ octet s (mark_place i) → is_marked r ≡ on k v (is_marked b)
@@ -125,16 +134,28 @@ module _ (s : List ℕ) (i : ℕ) (h : i < rows_most) where
 
   -- a reply takes the mark, if its number is the one held
   module _ (k : ℕ) (number held : CsaNumber) (e : held ≡ (value_at s i).number) where
-    pub replied_newer : newer number held ≡ true → replied k number (row_at (rows_in s) i) ≡ row_at (rows_in s) i
+    replied_newer : newer number held ≡ true → replied k number (row_at (rows_in s) i) ≡ row_at (rows_in s) i
     replied_newer t = at_case s i h (λ r. replied k number r ≡ r) refl (rw (ap (newer number) (sym e) ∙ t))
 
-    pub replied_older : newer number held ≡ false → newer held number ≡ true → replied k number (row_at (rows_in s) i) ≡ row_at (rows_in s) i
+    replied_older : newer number held ≡ false → newer held number ≡ true → replied k number (row_at (rows_in s) i) ≡ row_at (rows_in s) i
     replied_older f t = at_case s i h (λ r. replied k number r
         ≡ r) refl (rw (ap (newer number) (sym e) ∙ f, ap (λ (x : CsaNumber). newer x number) (sym e) ∙ t))
 
-    pub replied_same : newer number held ≡ false → newer held number ≡ false → unmarked k (row_at (rows_in s) i) ≡ replied k number (row_at (rows_in s) i)
-    replied_same f g = at_case s i h (λ r. unmarked k r ≡ replied k number r) refl
-        (rw (ap (newer number) (sym e) ∙ f, ap (λ (x : CsaNumber). newer x number) (sym e) ∙ g))
+    pub replied_same : int_eq number.0 held.0 ≡ true → unmarked k (row_at (rows_in s) i) ≡ replied k number (row_at (rows_in s) i)
+    replied_same t =
+        let z : number.0 ≡ held.0 = (Decides-int_eq number.0 held.0).0 t in
+        let n : (x y : ℤ) → x ≡ y → lt_z x y ≡ false = λ x y q. ap (lt_z x) (sym q) ∙ not_less_same x in
+        at_case s i h (λ r. unmarked k r ≡ replied k number r) refl
+        (rw (ap (newer number) (sym e) ∙ n held.0 number.0 (sym z), ap (λ (x : CsaNumber). newer x number) (sym e) ∙ n number.0 held.0 z))
+
+    other_by : (a b : Bool) → newer number held ≡ a → newer held number ≡ b → int_eq number.0 held.0 ≡ false → replied k number (row_at (rows_in s) i)
+        ≡ row_at (rows_in s) i
+    other_by true b f g t = replied_newer f
+    other_by false true f g t = replied_older f g
+    other_by false false f g t = absurd (false≢true (sym t ∙ (Decides-int_eq number.0 held.0).1 (apart number.0 held.0 g f)))
+
+    pub replied_other : int_eq number.0 held.0 ≡ false → replied k number (row_at (rows_in s) i) ≡ row_at (rows_in s) i
+    replied_other = other_by (newer number held) (newer held number) refl refl
 
     -- the answer to a record waits, unless a greater number is asked for
     pub answer_newer : newer number held ≡ true → answer_waits k number (row_at (rows_in s) i) ≡ row_at (rows_in s) i
@@ -142,14 +163,3 @@ module _ (s : List ℕ) (i : ℕ) (h : i < rows_most) where
 
     pub answer_held : newer number held ≡ false → waits_again k (row_at (rows_in s) i) ≡ answer_waits k number (row_at (rows_in s) i)
     answer_held f = at_case s i h (λ r. waits_again k r ≡ answer_waits k number r) refl (rw (ap (newer number) (sym e) ∙ f))
-
-    pub not_newer : newer number held ≡ false → newer number (value_at s i).number ≡ true → ⊥
-    not_newer f t = false≢true (sym (ap (newer number) (sym e) ∙ f) ∙ t)
-
-    -- so the numbers do not differ
-    pub not_differing : newer number held ≡ false → newer held number ≡ false
-        → (newer number (value_at s i).number || newer (value_at s i).number number) ≡ true → ⊥
-    not_differing f g t =
-        let a : newer number (value_at s i).number ≡ false = ap (newer number) (sym e) ∙ f in
-        let b : newer (value_at s i).number number ≡ false = ap (λ (x : CsaNumber). newer x number) (sym e) ∙ g in
-        absurd (false≢true (sym (λ z. a z || b z) ∙ t))

@@ -1,6 +1,6 @@
 -- Names and tags: an entry is told by its name, and its name by the tag first.
 -- Assumes nothing.
-use Rattle.std.proofs.Common.{◌≡◌, ℕ, ◌+◌, ◌-◌, ◌<◌, ◌≤◌, Bool, true, false, ◌&&◌, eqb, List, [], ◌++◌, length, take, drop, sym, refl, ap, ◌∙◌, arith, length-append, length-drop, take-append-drop, length-take-le, eq-eqb, ne_eqb, eqb-true}
+use Rattle.std.proofs.Common.{◌≡◌, ℕ, ◌+◌, ◌-◌, ◌<◌, ◌≤◌, Bool, true, false, ◌&&◌, eqb, List, [], ◌++◌, length, take, drop, sym, refl, ap, ◌∙◌, arith, length-append, length-drop, take-append-drop, length-take-le, eq-eqb, eqb-true}
 use mathlib.Core.Bool.{false≢true}
 use lib.Seq.{take-append_seam, drop-append_seam}
 use Rattle.laws.specs.Choice.{pick}
@@ -59,15 +59,6 @@ module _ (name : List ℕ) where
   module _ (tag : ℕ) where
     pub tagged_originator : (tagged_entry tag name).originator ≡ drop (length name - id_length) name
     tagged_originator = originator_by (eqb tag (tag_of name))
-
-    -- its name: the whole, or the originator alone
-    pub tagged_whole : tag ≡ tag_of name → name ≡ (tagged_entry tag name).key ++ (tagged_entry tag name).originator
-    tagged_whole e =
-        sym (take-append-drop (length name - id_length) name)
-        ∙ ap (λ (b : Bool). (picked b).key ++ (picked b).originator) (sym (eq-eqb tag (tag_of name) e))
-
-    pub tagged_end : (tag ≡ tag_of name → ⊥) → drop (length name - id_length) name ≡ (tagged_entry tag name).key ++ (tagged_entry tag name).originator
-    tagged_end n = ap (λ (b : Bool). (picked b).key ++ (picked b).originator) (sym (ne_eqb tag (tag_of name) n))
 
 -- a name made of a key and an originator
 pub named_entry : (key originator name : List ℕ) → length originator ≡ id_length → name ≡ key ++ originator → entry_named name

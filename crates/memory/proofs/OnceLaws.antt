@@ -17,8 +17,8 @@ use Rattle.rules.specs.Updates.{hops_most, value, changed_row, purged_row, set_r
 use Rattle.rules.specs.Updates.{equal, older, value_of, renewed, waits_again, rows_by, replied}
 use Rattle.rules.specs.Demand3.{Once}
 use Rattle.rules.proofs.Entries.{entry_true, entry_refl}
-use Rattle.memory.specs.declared.rows.Found.{Found}
-use Rattle.memory.specs.declared.rows.Found.TheVariants.{At, Nothing}
+use Rattle.std.specs.Prelude.{Option}
+use Rattle.std.specs.Prelude.{Some, None}
 use Rattle.memory.specs.Memory.{rows_in, Memory, memory_of}
 use Rattle.memory.specs.Entries.{rows_as}
 use Rattle.memory.specs.Search.{first_from, revalued}
@@ -32,7 +32,7 @@ module _ (e : Entry) (v : Value) (m : ℕ → Bool) (rows : List Row) (absent : 
   absent_at j = has_false free (holds e) refl rows absent j
 
   -- is found, at the row that was free
-  pub find_inserted : (i : ℕ) → first_from is_free 0 rows ≡ At i → first_from (holds e) 0 (filled (used e v m) rows) ≡ At i
+  pub find_inserted : (i : ℕ) → first_from is_free 0 rows ≡ Some i → first_from (holds e) 0 (filled (used e v m) rows) ≡ Some i
   find_inserted i at =
       let f : First is_free rows i = found is_free rows i at in
       let new : List Row = set rows i (used e v m) in
@@ -65,9 +65,9 @@ module _ (e : Entry) (v : Value) (m : ℕ → Bool) (rows : List Row) (absent : 
       cases (no y) (yes z) = clash g j (here k z q) (other j y p)
       cases (no y) (no z) = once g j k (other j y p) (other k z q)
 
-    by : (r : Found) → first_from is_free 0 rows ≡ r → Once (filled (used e v m) rows)
-    by (At i) at = rw (change_found is_free rows i at (λ _. used e v m)) (at_free i (found is_free rows i at))
-    by Nothing at = rw (change_none is_free rows at (λ _. used e v m)) once
+    by : (r : Option ℕ) → first_from is_free 0 rows ≡ r → Once (filled (used e v m) rows)
+    by (Some i) at = rw (change_found is_free rows i at (λ _. used e v m)) (at_free i (found is_free rows i at))
+    by None at = rw (change_none is_free rows at (λ _. used e v m)) once
 
 -- ---- entries that stay where they are, or go
 pub once_fewer : (rows new : List Row) → ((e : Entry) (i : ℕ) → holds e (row_at new i) ≡ true → holds e (row_at rows i) ≡ true) → Once rows → Once new
@@ -108,9 +108,9 @@ Keeps f = (e : Entry) (r : Row) → holds e (f r) ≡ true → holds e r ≡ tru
 
 pub once_changed : (p : Row → Bool) (f : Row → Row) → Keeps f → (rows : List Row) → Once rows → Once (change p f rows)
 once_changed p f keeps rows once = by (first_from p 0 rows) refl where
-  by : (r : Found) → first_from p 0 rows ≡ r → Once (change p f rows)
-  by (At i) at = rw (change_found p rows i at f) (once_set rows i (f (row_at rows i)) (found p rows i at).below (λ e. keeps e (row_at rows i)) once)
-  by Nothing at = rw (change_none p rows at f) once
+  by : (r : Option ℕ) → first_from p 0 rows ≡ r → Once (change p f rows)
+  by (Some i) at = rw (change_found p rows i at f) (once_set rows i (f (row_at rows i)) (found p rows i at).below (λ e. keeps e (row_at rows i)) once)
+  by None at = rw (change_none p rows at f) once
 
 keeps_renewed : (live : ℕ → Bool) (k : ℕ) (r : CsaRecord) → Keeps (renewed live k r)
 keeps_renewed live k r e free h = h

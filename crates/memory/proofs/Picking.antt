@@ -1,11 +1,18 @@
 -- The next rows by a loop: what is chosen so far, and what is left to look at.
 -- Assumes nothing.
-use Rattle.std.proofs.Common.{◌≡◌, ℕ, zero, suc, ◌+◌, ◌-◌, ◌%◌, ◌<◌, ◌≤◌, Bool, true, false, not, ◌⊎◌, List, [], ◌∷◌, ◌++◌, length, get_or, take, set, sym, refl, ap, ◌∙◌, subst, inl, inr, append_assoc, append-nil, le_of_suc-le-suc, not-suc-le-zero, add-one, arith, length-set, get_or-set_same, take-suc-set}
-use Rattle.laws.specs.Lists.{is_empty}
+use Rattle.std.proofs.Common.{◌≡◌, ℕ, zero, suc, ◌+◌, ◌-◌, ◌%◌, ◌<◌, ◌≤◌, Bool, true, false, not, ◌||◌, eqb, ◌⊎◌, List, [], ◌∷◌, ◌++◌, length, get_or, take, drop, set, drop_of_length-le, drop-cons, sym, refl, ap, ◌∙◌, subst, inl, inr, append_assoc, append-nil, le_of_suc-le-suc, not-suc-le-zero, add-one, arith, length-set, get_or-set_same, take-suc-set}
+use Rattle.std.specs.List.{list_any}
+use Rattle.laws.specs.Lists.{is_empty, part}
+use Rattle.laws.proofs.Lists.{part_length}
+use Rattle.protocol.specs.Fields.{octet}
+use Rattle.memory.specs.Layout.{lengths_at, memory_size}
+use Rattle.memory.specs.Memory.{rows_in}
+use Rattle.memory.proofs.RowPlaces.{row_get, is_used_lem}
+use Rattle.memory.proofs.Rooms.{octet_part}
 use Rattle.laws.specs.Tables.{has}
 use Rattle.laws.proofs.Cells.{has_false}
-use Rattle.rules.specs.Server.{rows_most, Row, free, waits_for, row_at}
-use Rattle.rules.specs.Rows.{next, behind, next_waiting}
+use Rattle.rules.specs.Server.{rows_most, Row, free, is_used, waits_for, row_at}
+use Rattle.rules.specs.Rows.{next, behind, used_from, next_waiting}
 use Rattle.memory.specs.Marks.{Picked}
 
 next_none : (p : ℕ → Bool) (left at : ℕ) → next p left 0 at ≡ []
@@ -106,27 +113,48 @@ go_on p most from all rows rows' count count' onward onward' left left' at n l g
 
 -- four chosen, and none left to look at
 module _ (p : ℕ → Bool) (from : ℕ) (all rows : List ℕ) (count onward left at : ℕ) where
-  pub picked_full : count ≡ 4 → Gone p 4 from all rows count onward left at → Picked from all (record { count = count; rows = rows; next = onward })
-  picked_full e g =
+  pub picked_full : (m : count ≤ 4) → count ≡ 4 → Gone p 4 from all rows count onward left at → Picked from all (record { count = count; rows = rows; next = onward; most = m })
+  picked_full m e g =
       let h = go_full p 4 all rows count left at e g.going in
-      record { chosen = h; onward = g.last ∙ ap (behind from) h; few = g.few; full = g.full }
+      record { chosen = h; onward = g.last ∙ ap (behind from) h; full = g.full }
 
-  pub picked_end : left ≡ 0 → Gone p 4 from all rows count onward left at → Picked from all (record { count = count; rows = rows; next = onward })
-  picked_end e g =
+  pub picked_end : (m : count ≤ 4) → left ≡ 0 → Gone p 4 from all rows count onward left at → Picked from all (record { count = count; rows = rows; next = onward; most = m })
+  picked_end m e g =
       let h = go_end p 4 all rows count left at e g.going in
-      record { chosen = h; onward = g.last ∙ ap (behind from) h; few = g.few; full = g.full }
+      record { chosen = h; onward = g.last ∙ ap (behind from) h; full = g.full }
 
--- ---- whether there is one
-module _ (p : ℕ → Bool) where
-  pub some_end : (left at : ℕ) → left ≡ 0 → not (is_empty (next p left 1 at)) ≡ false
+-- ---- whether there is one: told by the key lengths
+module _ (s : List ℕ) (size : length s ≡ memory_size) where
+  abbrev lengths : List ℕ
+  lengths = part s lengths_at 64
+
+  abbrev some : List ℕ → Bool
+  some = list_any (λ x. not (eqb x 0))
+
+  abbrev used_at : ℕ → Bool
+  used_at i = is_used (row_at (rows_in s) i)
+
+  used_octet : (i : ℕ) → i < 64 → used_at i ≡ not (eqb (octet lengths i) 0)
+  used_octet i h = ap is_used (row_get s i h) ∙ is_used_lem s i ∙ ap (λ x. not (eqb x 0)) (sym (octet_part s lengths_at 64 i h))
+
+  some_by : (n i : ℕ) (b : Bool) → used_at i ≡ b → some (drop (suc i) lengths) ≡ not (is_empty (next used_at n 1 (suc i)))
+      → (used_at i || some (drop (suc i) lengths)) ≡ not (is_empty (next used_at (suc n) 1 i))
+  some_by n i true m ih = ap (λ t. t || some (drop (suc i) lengths)) m ∙ sym (ap (λ (l : List ℕ). not (is_empty l)) (next_hit used_at n i 0 m))
+  some_by n i false m ih =
+      ap (λ t. t || some (drop (suc i) lengths)) m ∙ ih ∙ sym (ap (λ (l : List ℕ). not (is_empty l)) (next_miss used_at n i 1 m))
+
+  some_used : (n i : ℕ) → n ≡ 64 - i → some (drop i lengths) ≡ not (is_empty (next used_at n 1 i))
   unfolding next
-  some_end left at e = rw e
+  some_used zero i e =
+      let l : length lengths ≡ 64 = part_length s lengths_at 64 (omega arith) in
+      ap some (drop_of_length-le lengths {i = i} (omega arith))
+  some_used (suc n) i e =
+      let l : length lengths ≡ 64 = part_length s lengths_at 64 (omega arith) in
+      ap some (drop-cons lengths i 0 (omega arith)) ∙ ap (λ t. t || some (drop (suc i) lengths)) (sym (used_octet i (omega arith)))
+      ∙ some_by n i (used_at i) refl (some_used n (suc i) (omega arith))
 
-  pub some_hit : (left left' at : ℕ) → left ≡ suc left' → p at ≡ true → not (is_empty (next p left 1 at)) ≡ true
-  some_hit left left' at e m = rw e (ap (λ (l : List ℕ). not (is_empty l)) (next_hit p left' at 0 m))
-
-  pub some_miss : (left left' at : ℕ) → left ≡ suc left' → p at ≡ false → not (is_empty (next p left 1 at)) ≡ not (is_empty (next p left' 1 (at + 1)))
-  some_miss left left' at e m = rw (e, add-one) (ap (λ (l : List ℕ). not (is_empty l)) (next_miss p left' at 1 m))
+  pub used_after : (from : ℕ) → some (drop from lengths) ≡ used_from (rows_in s) from
+  used_after from = some_used (64 - from) from refl
 
 -- ---- no row waits
 next_empty : (p : ℕ → Bool) → ((j : ℕ) → p j ≡ false) → (left n at : ℕ) → next p left n at ≡ []
@@ -134,9 +162,9 @@ unfolding next
 next_empty p h zero n at = refl
 next_empty p h (suc left) n at = next_miss p left at n (h at) ∙ next_empty p h left n (suc at)
 
-pub picked_none : (rows : List Row) (k from : ℕ) (cells : List ℕ) → length cells ≡ 4 → has (waits_for k) rows ≡ false
-    → Picked from (next_waiting rows k from) (record { count = 0; rows = cells; next = from })
-picked_none rows k from cells n h =
+pub picked_none : (rows : List Row) (k from : ℕ) (cells : List ℕ) → (m : 0 ≤ 4) → length cells ≡ 4 → has (waits_for k) rows ≡ false
+    → Picked from (next_waiting rows k from) (record { count = 0; rows = cells; next = from; most = m })
+picked_none rows k from cells m n h =
     let e : next_waiting rows k from ≡ [] = next_empty (λ i. waits_for k (row_at rows (i % rows_most)))
     (λ j. has_false free (waits_for k) refl rows h (j % rows_most)) rows_most 4 from in
-    record { chosen = sym e; onward = sym (ap (behind from) e); few = omega arith; full = n }
+    record { chosen = sym e; onward = sym (ap (behind from) e); full = n }

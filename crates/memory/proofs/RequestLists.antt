@@ -1,10 +1,14 @@
 -- The loops over a request list: the first for an entry, and those that go.
 -- Assumes nothing.
-use Rattle.std.proofs.Common.{◌≡◌, ℕ, zero, suc, ◌+◌, ◌<◌, ◌≤◌, Bool, true, false, ◌||◌, List, [], ◌∷◌, ◌++◌, length, get_or, take, drop, set, sym, refl, ap, ◌∙◌, append-nil, add-zero, add-one, arith, length-set, get_or-drop, take-suc, drop-drop, take-suc-set, drop-set-lt}
-use native.Mathlib.Decide.{ℕ_discrete}
+use Rattle.std.proofs.Common.{◌≡◌, ℕ, zero, suc, ◌+◌, ◌<◌, ◌≤◌, Bool, true, false, ltb, cond, List, [], ◌∷◌, ◌++◌, length, get_or, take, drop, set, sym, refl, ap, ◌∙◌, append-nil, add-zero, add-one, arith, length-set, get_or-drop, take-suc, drop-drop, take-suc-set, drop-set-lt, le-ltb, lt-ltb}
+use Rattle.std.specs.Prelude.{Some, None}
+use Rattle.std.specs.List.{position, position_or_len}
+use Rattle.std.proofs.lemmas.Grind.{common_steps}
+use Rattle.std.proofs.lemmas.List.Sums.{position_or_len_is, fails_before_first}
+use Rattle.std.proofs.lemmas.List.Quantifiers.{position-Some}
+use borrow.Author.Count.{below_more}
 use Rattle.laws.specs.Choice.{pick}
 use Rattle.laws.specs.Tables.{has, change, without}
-use Rattle.memory.specs.Lists.{index_of}
 
 -- ---- the first that passes
 module _ {A : Type 0} (p : A → Bool) (d : A) where
@@ -12,68 +16,63 @@ module _ {A : Type 0} (p : A → Bool) (d : A) where
   abbrev pub Passed : List A → ℕ → Type 0
   Passed l i = (j : ℕ) → j < i → j < length l → p (get_or l j d) ≡ false
 
-  passed_by : (l : List A) (i j : ℕ) → Passed l i → p (get_or l i d) ≡ false → j < i + 1 → j < length l → Dec (j ≡ i) → p (get_or l j d) ≡ false
-  passed_by l i j h e g n (yes y) = ap (λ (m : ℕ). p (get_or l m d)) y ∙ e
-  passed_by l i j h e g n (no y) = h j (omega (arith, y)) n
-
   pub passed_more : (l : List A) (i : ℕ) → Passed l i → p (get_or l i d) ≡ false → Passed l (i + 1)
-  passed_more l i h e j g n = passed_by l i j h e g n (ℕ_discrete j i)
+  passed_more l i h e = below_more (λ (j : ℕ). j < length l → p (get_or l j d) ≡ false) i h (λ _. e)
 
   later : (x : A) (l : List A) (i : ℕ) → Passed (x ∷ l) (suc i) → Passed l i
   later x l i h j g n = h (suc j) (omega arith) (omega arith)
 
-  pub place_hit : (l : List A) (i : ℕ) → i < length l → Passed l i → p (get_or l i d) ≡ true → index_of p l ≡ i
-  place_hit [] i h q e = absurd (omega arith)
-  place_hit (x ∷ l) zero h q e = rw e
-  place_hit (x ∷ l) (suc i) h q e = rw (q 0 (omega arith) (omega arith)) (ap suc (place_hit l i (omega arith) (later x l i q) e))
+  at_place : (l : List A) (i : ℕ) → position_or_len p l ≡ i → position p l ≡ cond (ltb i (length l)) (Some i) None
+  at_place l i e = ap (λ (n : ℕ). cond (ltb n (length l)) (Some n) None) e
 
-  pub place_end : (l : List A) (i : ℕ) → length l ≤ i → Passed l i → index_of p l ≡ length l
-  place_end [] i h q = refl
-  place_end (x ∷ l) zero h q = absurd (omega arith)
-  place_end (x ∷ l) (suc i) h q = rw (q 0 (omega arith) (omega arith)) (ap suc (place_end l i (omega arith) (later x l i q)))
+  pub place_hit : (l : List A) (i : ℕ) → i < length l → Passed l i → p (get_or l i d) ≡ true → position p l ≡ Some i
+  place_hit l i h q e =
+      at_place l i (position_or_len_is p l i d (omega arith) (λ k g. q k g (omega arith)) (λ _. e))
+      ∙ ap (λ (b : Bool). cond b (Some i) None) (lt-ltb i (length l) h)
 
-  -- none before the place passes
-  before_by : (x : A) (l : List A) (b : Bool) → p x ≡ b → Passed l (index_of p l) → Passed (x ∷ l) (pick b 0 (suc (index_of p l)))
-  before_by x l true e q j g n = absurd (omega arith)
-  before_by x l false e q zero g n = e
-  before_by x l false e q (suc j) g n = q j (omega arith) (omega arith)
+  pub place_end : (l : List A) (i : ℕ) → length l ≤ i → Passed l i → position p l ≡ None
+  place_end l i h q =
+      let n : ℕ = length l in
+      at_place l n (position_or_len_is p l n d (omega arith) (λ k g. q k (omega arith) g) (λ g. absurd (omega arith)))
+      ∙ ap (λ (b : Bool). cond b (Some n) None) (le-ltb n n (omega arith))
 
-  pub place_passed : (l : List A) → Passed l (index_of p l)
-  place_passed [] = λ j g n. absurd (omega arith)
-  place_passed (x ∷ l) = before_by x l (p x) refl (place_passed l)
-
-  place_by : (l : List A) (b : Bool) → index_of p l ≤ length l → pick b 0 (suc (index_of p l)) ≤ suc (length l)
-  place_by l true h = omega arith
-  place_by l false h = omega arith
-
-  pub place_within : (l : List A) → index_of p l ≤ length l
-  place_within [] = omega arith
-  place_within (x ∷ l) = place_by l (p x) (place_within l)
-
-  -- what is known where there is one, and where there is none
-  pub record Placed (l : List A) : Type 0 where
-    pub passes : p (get_or l (index_of p l) d) ≡ true
+  -- what is known where one passes, at i
+  pub record Placed (l : List A) (i : ℕ) : Type 0 where
+    pub below : i < length l
+    pub passes : p (get_or l i d) ≡ true
     pub there : has p l ≡ true
-    pub changes : (f : A → A) → change p f l ≡ set l (index_of p l) (f (get_or l (index_of p l) d))
+    pub before : Passed l i
+    pub changes : (f : A → A) → change p f l ≡ set l i (f (get_or l i d))
 
-  placed_by : (x : A) (l : List A) → (index_of p l < length l → Placed l) → (b : Bool) → p x ≡ b → pick b 0 (suc (index_of p l)) < suc (length l) → Placed (x ∷ l)
-  placed_by x l ih true e h = record { passes = rw e e; there = rw e; changes = λ f. rw e }
-  placed_by x l ih false e h =
-      let r = ih (omega arith) in
-      record { passes = rw e r.passes; there = rw e r.there; changes = λ f. rw (e, r.changes f) }
+  first_there : (l : List A) (i : ℕ) → i < length l → p (get_or l i d) ≡ true → Passed l i → has p l ≡ true
+  first_there [] i h e q = absurd (omega arith)
+  first_there (x ∷ l) zero h e q = rw e
+  first_there (x ∷ l) (suc i) h e q = rw (q 0 (omega arith) (omega arith)) (first_there l i (omega arith) e (later x l i q))
 
-  pub placed : (l : List A) → index_of p l < length l → Placed l
-  placed [] h = absurd (omega arith)
-  placed (x ∷ l) h = placed_by x l (placed l) (p x) refl h
+  first_changes : (f : A → A) (l : List A) (i : ℕ) → i < length l → p (get_or l i d) ≡ true → Passed l i → change p f l ≡ set l i (f (get_or l i d))
+  first_changes f [] i h e q = absurd (omega arith)
+  first_changes f (x ∷ l) zero h e q = rw e
+  first_changes f (x ∷ l) (suc i) h e q =
+      rw (q 0 (omega arith) (omega arith)) (ap (λ (z : List A). x ∷ z) (first_changes f l i (omega arith) e (later x l i q)))
 
-  nowhere_by : (x : A) (l : List A) → (length l ≤ index_of p l → has p l ≡ false) → (b : Bool) → suc (length l) ≤ pick b 0 (suc (index_of p l))
-      → (b || has p l) ≡ false
-  nowhere_by x l ih true h = absurd (omega arith)
-  nowhere_by x l ih false h = ih (omega arith)
+  pub placed : (l : List A) (i : ℕ) → Some i ≡ position p l → Placed l i
+  placed l i e =
+      let f = position-Some p l i d (sym e) in
+      let q : Passed l i = λ j g _. f.2 j g in
+      record { below = f.0; passes = f.1; there = first_there l i f.0 f.1 q; before = q; changes = λ g. first_changes g l i f.0 f.1 q }
 
-  pub nowhere : (l : List A) → length l ≤ index_of p l → has p l ≡ false
-  nowhere [] h = refl
-  nowhere (x ∷ l) h = nowhere_by x l (nowhere l) (p x) h
+  -- where none passes
+  pub none_passes : (l : List A) → None ≡ position p l → (i : ℕ) → Passed l i
+  none_passes l e i j g n =
+      let h : length l ≤ position_or_len p l = grind (arith, common_steps) in
+      fails_before_first p l j d (omega arith)
+
+  all_fail : (l : List A) → ((i : ℕ) → Passed l i) → has p l ≡ false
+  all_fail [] h = refl
+  all_fail (x ∷ l) h = rw (h 1 0 (omega arith) (omega arith)) (all_fail l (λ i. later x l i (h (suc i))))
+
+  pub nowhere : (l : List A) → None ≡ position p l → has p l ≡ false
+  nowhere l e = all_fail l (none_passes l e)
 
   -- ---- those that go: of the first i of l those that stay are the first w of r, and the others stand as they were
   pub record Removed (l r : List A) (i w : ℕ) : Type 0 where

@@ -1,22 +1,23 @@
 -- Requests that go: what the functions leave, from what those that they call leave.
 -- Assumes nothing.
-use Rattle.std.proofs.Common.{◌≡◌, ℕ, suc, ◌+◌, ◌<◌, ◌≤◌, min, Bool, true, false, not, ◌&&◌, ◌||◌, List, length, get_or, take, set, sym, refl, ap, ◌∙◌, add-one, arith, length-take, lt-ltb}
+use Rattle.std.proofs.Common.{◌≡◌, ℕ, suc, ◌+◌, ◌<◌, ◌≤◌, min, Bool, true, false, List, length, get_or, take, set, sym, refl, ap, ◌∙◌, add-one, arith, length-take, lt-ltb}
 use mathlib.Core.Bool.{false≢true}
 use lib.Seq.{set-get_or}
+use Rattle.std.specs.Prelude.{Option, None}
+use Rattle.std.specs.List.{position}
 use Rattle.laws.specs.Choice.{pick}
 use Rattle.laws.specs.Tables.{has, without}
 use Rattle.laws.proofs.Tables.{room}
 use Rattle.protocol.specs.declared.CsaNumber.{CsaNumber}
 use Rattle.protocol.specs.Fields.{field2}
-use Rattle.protocol.specs.Numbers.{newer}
 use Rattle.rules.specs.Server.{Entry, Request}
 use Rattle.rules.specs.Requests.{asks}
 use Rattle.memory.specs.Layout.{list_place}
 use Rattle.memory.specs.Memory.{requests_in, memory_of, requests_put, requests_of}
-use Rattle.memory.specs.Lists.{rooms_in, no_request, Listed, index_of, goes, Removes}
+use Rattle.memory.specs.Lists.{rooms_in, no_request, Listed, goes, Removes}
 use Rattle.memory.proofs.Rooms.{rooms_length, requests_of_lem, listed_none, listed_memory}
-use Rattle.memory.proofs.RequestSteps.{then_sized, then_any, rooms_are, list_get, list_take}
-use Rattle.memory.proofs.RequestLists.{place_passed, place_within, Removed, removed_none, removed_more}
+use Rattle.memory.proofs.RequestSteps.{then_sized, then_any, rooms_are, list_get, list_take, goes_not}
+use Rattle.memory.proofs.RequestLists.{Passed, none_passes, Removed, removed_none, removed_more}
 
 -- ---- those that go
 module _ (s t : List ℕ) (k : ℕ) (p : Request → Bool) (i w : ℕ) (r : Bool) (is : r ≡ p (get_or (rooms_in s k) i no_request)) where
@@ -45,19 +46,15 @@ pub record Removing (k : ℕ) (p : Request → Bool) (i w : ℕ) (s t : List ℕ
   pub rooms : Removed p no_request (rooms_in s k) (rooms_in t k) i w
   pub kept : w ≡ i → t ≡ s
 
--- from the first request for the entry on
-pub removing_none : (k : ℕ) (all : Bool) (e : Entry) (m : CsaNumber) (n i : ℕ) (s : List ℕ) → k < 8 → n ≡ length (requests_in s k)
-    → i ≡ index_of (asks e) (requests_in s k) → Removing k (goes all e m) i i s s
-removing_none k all e m n i s slot long place =
-    let l : List Request = requests_in s k in
-    let within : index_of (asks e) l ≤ length l = place_within (asks e) no_request l in
-    record {
-      list = listed_none s k slot;
-      rooms = removed_none (goes all e m) no_request (rooms_in s k) i (λ j g h.
-          ap (λ (q : Request). goes all e m q) (sym (list_get s k j (omega arith)))
-          ∙ ap (λ (b : Bool). b && (all || not (newer (get_or l j no_request).number m))) (place_passed (asks e) no_request l j (omega arith) (omega arith)));
-      kept = λ z. refl;
-    }
+-- none of the first i is for the entry
+pub removing_none : (k : ℕ) (u : Option CsaNumber) (e : Entry) (i : ℕ) (s : List ℕ) → k < 8 → i ≤ length (requests_in s k)
+    → Passed (asks e) no_request (requests_in s k) i → Removing k (goes u e) i i s s
+removing_none k u e i s slot within none = record {
+  list = listed_none s k slot;
+  rooms = removed_none (goes u e) no_request (rooms_in s k) i
+      (λ j g h. ap (goes u e) (sym (list_get s k j (omega arith))) ∙ goes_not u e _ (none j g (omega arith)));
+  kept = λ z. refl;
+}
 
 stayed : (b : Bool) (i w r : ℕ) → w ≤ i → r ≡ pick b w (suc w) → r ≡ i + 1 → w ≡ i
 stayed true i w r h e f = absurd (omega arith)
@@ -105,3 +102,11 @@ module _ (k : ℕ) (p : Request → Bool) (n i w : ℕ) (s t : List ℕ) (slot :
         ap memory_of e ∙ (listed_none s k slot).others ∙ ap (λ (z : List Request). requests_put k z (memory_of s)) same,
         λ none. e,
       )
+
+-- the list has no request for the entry
+pub remove_absent : (k : ℕ) (u : Option CsaNumber) (e : Entry) (n : ℕ) (s : List ℕ) → k < 8 → n ≡ length (requests_in s k) → n ≤ 64
+    → None ≡ position (asks e) (requests_in s k)
+    → memory_of s ≡ requests_put k (without (goes u e) (requests_of (memory_of s) k)) (memory_of s)
+remove_absent k u e n s slot long most none =
+    (remove_nothing k (goes u e) n n n s s slot long most refl
+    (removing_none k u e n s slot (omega arith) (none_passes (asks e) no_request (requests_in s k) none n)) (omega arith)).0

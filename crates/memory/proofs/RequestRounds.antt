@@ -11,8 +11,7 @@ use Rattle.protocol.specs.declared.CsaNumber.{CsaNumber}
 use Rattle.rules.specs.Server.{requests_most, Entry, Request}
 use Rattle.rules.specs.Requests.{asks, raised, join, acknowledged, dropped, rotated}
 use Rattle.rules.proofs.Entries.{entry_true}
-use Rattle.memory.specs.Lists.{no_request, index_of}
-use Rattle.memory.proofs.RequestLists.{nowhere}
+use Rattle.memory.specs.Lists.{no_request}
 use Rattle.memory.proofs.RequestLaws.{OneEach, acknowledged_one, dropped_one, join_one, join_list, rotated_one, rotated_perm, none_left}
 use Rattle.memory.proofs.RequestLaws.{within_short, acknowledged_order, dropped_order}
 
@@ -71,19 +70,30 @@ after_most empties l h = omega arith
 
 -- ---- how many stand before the first that passes
 module _ {A : Type 0} (p : A → Bool) where
-  place_front : (l m : List A) → has p l ≡ true → index_of p (l ++ m) ≡ index_of p l
+  abbrev index_of : List A → ℕ
+  index_of [] = 0
+  index_of (x ∷ xs) = pick (p x) 0 (suc (index_of xs))
+
+  nowhere : (l : List A) → length l ≤ index_of l → has p l ≡ false
+  nowhere [] h = refl
+  nowhere (x ∷ l) h = by (nowhere l) (p x) h where
+    by : (length l ≤ index_of l → has p l ≡ false) → (b : Bool) → suc (length l) ≤ pick b 0 (suc (index_of l)) → (b || has p l) ≡ false
+    by ih true g = absurd (omega arith)
+    by ih false g = ih (omega arith)
+
+  place_front : (l m : List A) → has p l ≡ true → index_of (l ++ m) ≡ index_of l
   place_front [] m h = absurd (false≢true h)
   place_front (x ∷ l) m h = by (place_front l m) (p x) h where
-    by : (has p l ≡ true → index_of p (l ++ m) ≡ index_of p l) → (b : Bool) → (b || has p l) ≡ true
-        → pick b 0 (suc (index_of p (l ++ m))) ≡ pick b 0 (suc (index_of p l))
+    by : (has p l ≡ true → index_of (l ++ m) ≡ index_of l) → (b : Bool) → (b || has p l) ≡ true
+        → pick b 0 (suc (index_of (l ++ m))) ≡ pick b 0 (suc (index_of l))
     by ih true g = refl
     by ih false g = ap suc (ih g)
 
-  place_behind : (l m : List A) → has p l ≡ false → index_of p (l ++ m) ≡ length l + index_of p m
+  place_behind : (l m : List A) → has p l ≡ false → index_of (l ++ m) ≡ length l + index_of m
   place_behind [] m h = omega arith
   place_behind (x ∷ l) m h =
       let r = or_false (p x) (has p l) h in
-      let ih : index_of p (l ++ m) ≡ length l + index_of p m = place_behind l m r.1 in
+      let ih : index_of (l ++ m) ≡ length l + index_of m = place_behind l m r.1 in
       rw (r.0, ih) (omega arith)
 
   has_behind : (l m : List A) → has p l ≡ false → has p (l ++ m) ≡ has p m
@@ -91,15 +101,15 @@ module _ {A : Type 0} (p : A → Bool) where
   has_behind (x ∷ l) m h = let r = or_false (p x) (has p l) h in rw r.0 (has_behind l m r.1)
 
   -- four of the others go to the end
-  place_turned : (l : List A) → has p l ≡ true → has p (take 4 l) ≡ false → index_of p (drop 4 l ++ take 4 l) + 4 ≡ index_of p l
+  place_turned : (l : List A) → has p l ≡ true → has p (take 4 l) ≡ false → index_of (drop 4 l ++ take 4 l) + 4 ≡ index_of l
   place_turned [] h g = absurd (false≢true h)
   place_turned (a ∷ []) h g = absurd (false≢true (sym g ∙ h))
   place_turned (a ∷ b ∷ []) h g = absurd (false≢true (sym g ∙ h))
   place_turned (a ∷ b ∷ c ∷ []) h g = absurd (false≢true (sym g ∙ h))
   place_turned (a ∷ b ∷ c ∷ d ∷ m) h g =
       let four : List A = a ∷ b ∷ c ∷ d ∷ [] in
-      let far : index_of p (four ++ m) ≡ 4 + index_of p m = place_behind four m g in
-      let near : index_of p (m ++ four) ≡ index_of p m = place_front m four (sym (has_behind four m g) ∙ h) in
+      let far : index_of (four ++ m) ≡ 4 + index_of m = place_behind four m g in
+      let near : index_of (m ++ four) ≡ index_of m = place_front m four (sym (has_behind four m g) ∙ h) in
       omega arith
 
 -- ---- a step brings a request that stays no farther from the front, and a rotation that leaves it out brings it four nearer
@@ -163,7 +173,7 @@ comes_round e ss l one most h n =
     is_true (is_sent e ss l)
     (λ f.
     let far = left_out e ss l one h f in
-    false≢true (sym (nowhere (asks e) no_request l (omega arith)) ∙ stays_now e ss l h))
+    false≢true (sym (nowhere (asks e) l (omega arith)) ∙ stays_now e ss l h))
 
 -- ---- so it is of every list that steps make of the empty one
 abbrev pub after_all : List ListStep → List Request → List Request

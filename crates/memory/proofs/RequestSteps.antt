@@ -1,31 +1,28 @@
 -- What the functions on a request list leave, from what those that they call leave.
 -- Assumes nothing.
-use Rattle.std.proofs.Common.{◌≡◌, ℕ, suc, ◌+◌, ◌<◌, ◌≤◌, min, Bool, true, false, not, ◌&&◌, ltb, List, [], ◌∷◌, ◌++◌, length, get_or, take, set, sym, refl, ap, ◌∙◌, subst, add-one, arith, length-take, get_or-take, take-suc-set, le-ltb, lt-ltb}
-use mathlib.Core.Path.{fun_ext}
+use Rattle.std.proofs.Common.{◌≡◌, ℕ, suc, ◌+◌, ◌<◌, ◌≤◌, min, Bool, true, false, not, ltb, List, [], ◌∷◌, ◌++◌, length, get_or, take, set, sym, refl, ap, ◌∙◌, subst, add-one, arith, length-take, get_or-take, take-suc-set, le-ltb, lt-ltb}
 use mathlib.Core.Bool.{false≢true}
 use lib.Seq.{take-set-lt}
+use Rattle.std.specs.Prelude.{Option, Some, None}
+use Rattle.std.specs.List.{position}
 use Rattle.laws.specs.Choice.{pick}
-use Rattle.laws.specs.Tables.{has, change, without}
+use Rattle.laws.specs.Tables.{has, change}
 use Rattle.laws.proofs.Lists.{take_taken}
 use Rattle.protocol.specs.declared.CsaNumber.{CsaNumber}
 use Rattle.protocol.specs.Fields.{octet, field2}
 use Rattle.protocol.specs.Numbers.{newer}
 use Rattle.rules.specs.Server.{Entry, Request}
-use Rattle.rules.specs.Requests.{asks, raised, join, Wanted, dropped}
+use Rattle.rules.specs.Requests.{asks, raised, join, Wanted}
 use Rattle.memory.specs.Layout.{request_size, memory_size, list_place, request_tag_place, request_place}
-use Rattle.memory.specs.Memory.{entry_named, tag_of, request_in, requests_in, Memory, memory_of, requests_put, requests_of}
+use Rattle.memory.specs.Memory.{entry_named, tag_of, request_in, requests_in, memory_of, requests_put, requests_of}
 use Rattle.memory.specs.Search.{FirstOctet}
-use Rattle.memory.specs.Lists.{rooms_in, no_request, Listed, index_of, goes, Joins}
+use Rattle.memory.specs.Lists.{rooms_in, no_request, Listed, goes, Joins}
 use Rattle.memory.proofs.Rooms.{rooms_length, rooms_get, requests_in_lem, requests_of_lem, listed_none, listed_then, listed_requests}
 use Rattle.memory.proofs.RoomReads.{room_is, asks_other, raised_newer, raised_not}
 use Rattle.memory.proofs.RequestLists.{Passed, passed_more, place_hit, place_end, placed, nowhere}
 
 -- ---- one change after another
 module _ {k n : ℕ} {l : List Request} {s t : List ℕ} (p : Listed k n l s t) where
-  -- the second says what it leaves by what it finds
-  pub then_moved : (u : List ℕ) (f : List Request → List Request) → Listed k (field2 t (list_place k)) (f (rooms_in t k)) t u → Listed k n (f l) s u
-  then_moved u f q = record { used = q.used ∙ p.used; held = q.held ∙ ap f p.held; others = (listed_then p q).others }
-
   pub then_sized : (u : List ℕ) (m : ℕ) → Listed k m (rooms_in t k) t u → Listed k m l s u
   then_sized u m q = record { used = q.used; held = q.held ∙ p.held; others = (listed_then p q).others }
 
@@ -76,14 +73,14 @@ module _ (s : List ℕ) (k n i : ℕ) (name : List ℕ) (long : n ≡ length (re
     tested : asks (entry_named name) (get_or (requests_in s k) i no_request) ≡ a
     tested = ap (asks (entry_named name)) (list_get s k i (omega arith)) ∙ sym f
 
-    pub find_hit : a ≡ true → i ≡ index_of (asks (entry_named name)) (requests_in s k)
+    pub find_hit : a ≡ true → Some i ≡ position (asks (entry_named name)) (requests_in s k)
     find_hit g = sym (place_hit (asks (entry_named name)) no_request (requests_in s k) i (omega arith) so (tested ∙ g))
 
     pub find_miss : a ≡ false → Passed (asks (entry_named name)) no_request (requests_in s k) (i + 1)
     find_miss g = passed_more (asks (entry_named name)) no_request (requests_in s k) i so (tested ∙ g)
 
-  pub find_end : Looked → n ≤ i → n ≡ index_of (asks (entry_named name)) (requests_in s k)
-  find_end so h = long ∙ sym (place_end (asks (entry_named name)) no_request (requests_in s k) i (omega arith) so)
+  pub find_end : Looked → n ≤ i → None ≡ position (asks (entry_named name)) (requests_in s k)
+  find_end so h = sym (place_end (asks (entry_named name)) no_request (requests_in s k) i (omega arith) so)
 
 -- ---- a number raised
 module _ (s t : List ℕ) (k i : ℕ) (e : Entry) (n m : CsaNumber) (r : Bool) (room : i < 64) (is : m ≡ (request_in s k i).number) where
@@ -102,29 +99,16 @@ module _ (s t : List ℕ) (k i : ℕ) (e : Entry) (n m : CsaNumber) (r : Bool) (
   raise_not slot f g = raised_not s k i n slot (ap (newer n) (sym number_room) ∙ sym f ∙ g)
 
   -- ---- whether a request goes; here n is the number to compare with
-  pub goes_by : (all : Bool) (a : Bool) → a ≡ asks e (get_or (rooms_in s k) i no_request) → a ≡ true → all ≡ false → r ≡ newer m n
-      → not r ≡ goes all e n (get_or (rooms_in s k) i no_request)
-  goes_by all a f g h j =
+  pub goes_by : (u : Option CsaNumber) (a : Bool) → a ≡ asks e (get_or (rooms_in s k) i no_request) → a ≡ true → u ≡ Some n → r ≡ newer m n
+      → not r ≡ goes u e (get_or (rooms_in s k) i no_request)
+  goes_by u a f g h j =
       let x : asks e (get_or (rooms_in s k) i no_request) ≡ true = sym f ∙ g in
-      rw (x, h) (ap not (j ∙ ap (λ (z : CsaNumber). newer z n) number_room))
+      rw (h, x) (ap not (j ∙ ap (λ (z : CsaNumber). newer z n) number_room))
 
-pub goes_all : (all a : Bool) (e : Entry) (n : CsaNumber) (q : Request) → a ≡ asks e q → a ≡ true → all ≡ true → true ≡ goes all e n q
-goes_all all a e n q f g h = let x : asks e q ≡ true = sym f ∙ g in rw (x, h)
-
-pub goes_not : (all a : Bool) (e : Entry) (n : CsaNumber) (q : Request) → a ≡ asks e q → a ≡ false → false ≡ goes all e n q
-goes_not all a e n q f g = let x : asks e q ≡ false = sym f ∙ g in rw x
-
-and_all : (b : Bool) → (b && true) ≡ b
-and_all true = refl
-and_all false = refl
-
--- all go, whatever the number
-pub goes_dropped : (k : ℕ) (e : Entry) (n : CsaNumber) (m m' : Memory) → m' ≡ requests_put k (without (goes true e n) (requests_of m k)) m
-    → m' ≡ requests_put k (dropped e (requests_of m k)) m
-goes_dropped k e n m m' h = h ∙ ap (λ (p : Request → Bool). requests_put k (without p (requests_of m k)) m) (fun_ext (λ q. and_all (asks e q)))
-
-pub goes_none : (e : Entry) (n : CsaNumber) (l : List Request) → has (asks e) l ≡ false → has (goes true e n) l ≡ false
-goes_none e n l h = ap (λ (p : Request → Bool). has p l) (fun_ext (λ q. and_all (asks e q))) ∙ h
+-- a request of another entry stays
+pub goes_not : (u : Option CsaNumber) (e : Entry) (q : Request) → asks e q ≡ false → goes u e q ≡ false
+goes_not None e q h = h
+goes_not (Some n) e q h = rw h
 
 -- ---- joining
 module _ (e : Entry) (n : CsaNumber) (l : List Request) (missed : ℕ) where
@@ -140,16 +124,7 @@ module _ (e : Entry) (n : CsaNumber) (l : List Request) (missed : ℕ) where
       → join e n (record { requests = l; missed = missed }) ≡ record { requests = l; missed = pick (ltb missed 65535) (suc missed) missed }
   join_misses h g = rw (h, le-ltb (length l) 64 g)
 
-module _ (s : List ℕ) (k : ℕ) (slot : k < 8) (e : Entry) (n : CsaNumber) (missed m i : ℕ) (long : m ≡ length (requests_in s k))
-    (found : i ≡ index_of (asks e) (requests_in s k)) where
-  there : i < m → index_of (asks e) (requests_in s k) < length (requests_in s k)
-  there h = omega arith
-
-  pub join_asks : i < m → asks e (get_or (rooms_in s k) i no_request) ≡ true
-  join_asks h =
-      ap (asks e) (sym (list_get s k i (omega arith)) ∙ ap (λ (z : ℕ). get_or (requests_in s k) z no_request) found)
-      ∙ (placed (asks e) no_request (requests_in s k) (there h)).passes
-
+module _ (s : List ℕ) (k : ℕ) (slot : k < 8) (e : Entry) (n : CsaNumber) (missed m : ℕ) (long : m ≡ length (requests_in s k)) where
   -- what it comes to, of the list that the rules speak of
   joined : (t : List ℕ) (l : List Request) (r : ℕ) → requests_in t k ≡ l → memory_of t ≡ requests_put k (requests_in t k) (memory_of s)
       → join e n (record { requests = requests_in s k; missed = missed }) ≡ record { requests = l; missed = r }
@@ -164,18 +139,25 @@ module _ (s : List ℕ) (k : ℕ) (slot : k < 8) (e : Entry) (n : CsaNumber) (mi
             (ap (λ (z : List Request). ltb (length z) 64) (sym (requests_of_lem s k slot)) ∙ most);
       }
 
-  pub join_found : (t : List ℕ) → i < m
-      → Listed k (field2 s (list_place k)) (set (rooms_in s k) i (raised n (get_or (rooms_in s k) i no_request))) s t → Joins k e n missed s t missed
-  join_found t h p =
-      let l : List Request = requests_in s k in
-      let P = placed (asks e) no_request l (there h) in
-      let f : requests_in t k ≡ change (asks e) (raised n) l =
-      listed_requests p ∙ list_set s k i (raised n (get_or (rooms_in s k) i no_request)) (omega arith)
-      ∙ ap (λ (q : Request). set l i (raised n q)) (sym (list_get s k i (omega arith)))
-      ∙ ap (λ (z : ℕ). set l z (raised n (get_or l z no_request))) found ∙ sym (P.changes (raised n)) in
-      joined t (change (asks e) (raised n) l) missed f p.others (join_has e n l missed P.there) (λ none most. absurd (false≢true (sym none ∙ P.there)))
+  -- the entry's request is found at i
+  module _ (i : ℕ) (found : Some i ≡ position (asks e) (requests_in s k)) where
+    pub join_asks : asks e (get_or (rooms_in s k) i no_request) ≡ true
+    join_asks =
+        let P = placed (asks e) no_request (requests_in s k) i found in
+        ap (asks e) (sym (list_get s k i P.below)) ∙ P.passes
 
-  pub join_new : (t : List ℕ) → m ≤ i → m < 64 → Listed k (m + 1) (set (rooms_in s k) m (record { entry = e; number = n })) s t → Joins k e n missed s t missed
+    pub join_found : (t : List ℕ) → Listed k (field2 s (list_place k)) (set (rooms_in s k) i (raised n (get_or (rooms_in s k) i no_request))) s t
+        → Joins k e n missed s t missed
+    join_found t p =
+        let l : List Request = requests_in s k in
+        let P = placed (asks e) no_request l i found in
+        let f : requests_in t k ≡ change (asks e) (raised n) l =
+        listed_requests p ∙ list_set s k i (raised n (get_or (rooms_in s k) i no_request)) P.below
+        ∙ ap (λ (q : Request). set l i (raised n q)) (sym (list_get s k i P.below)) ∙ sym (P.changes (raised n)) in
+        joined t (change (asks e) (raised n) l) missed f p.others (join_has e n l missed P.there) (λ none most. absurd (false≢true (sym none ∙ P.there)))
+
+  pub join_new : (t : List ℕ) → None ≡ position (asks e) (requests_in s k) → m < 64
+      → Listed k (m + 1) (set (rooms_in s k) m (record { entry = e; number = n })) s t → Joins k e n missed s t missed
   join_new t h g p =
       let l : List Request = requests_in s k in
       let x : Request = record { entry = e; number = n } in
@@ -183,12 +165,12 @@ module _ (s : List ℕ) (k : ℕ) (slot : k < 8) (e : Entry) (n : CsaNumber) (mi
       let f : requests_in t k ≡ l ++ (x ∷ []) =
       listed_requests p ∙ ap (λ (z : ℕ). take z (set (rooms_in s k) m x)) (add-one m) ∙ take-suc-set (rooms_in s k) m x room
       ∙ ap (λ (z : List Request). z ++ (x ∷ [])) (list_take s k m long) in
-      joined t (l ++ (x ∷ [])) missed f p.others (join_adds e n l missed (nowhere (asks e) no_request l (omega arith)) (omega arith))
+      joined t (l ++ (x ∷ [])) missed f p.others (join_adds e n l missed (nowhere (asks e) no_request l h) (omega arith))
       (λ none most. absurd (false≢true (sym most ∙ lt-ltb (length l) 64 (omega arith))))
 
-  pub join_full : (r : ℕ) → m ≤ i → 64 ≤ m → r ≡ pick (ltb missed 65535) (suc missed) missed → Joins k e n missed s s r
+  pub join_full : (r : ℕ) → None ≡ position (asks e) (requests_in s k) → 64 ≤ m → r ≡ pick (ltb missed 65535) (suc missed) missed → Joins k e n missed s s r
   join_full r h g c =
       let l : List Request = requests_in s k in
       subst (Joins k e n missed s s) (sym c)
       (joined s l (pick (ltb missed 65535) (suc missed) missed) refl (listed_none s k slot).others
-      (join_misses e n l missed (nowhere (asks e) no_request l (omega arith)) (omega arith)) (λ none most. refl))
+      (join_misses e n l missed (nowhere (asks e) no_request l h) (omega arith)) (λ none most. refl))

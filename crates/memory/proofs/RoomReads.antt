@@ -1,7 +1,9 @@
 -- What the functions on one room and on the list's size answer.
 -- Assumes nothing.
-use Rattle.std.proofs.Common.{◌≡◌, ℕ, ◌+◌, ◌-◌, ◌*◌, ◌/◌, ◌%◌, ◌<◌, ◌≤◌, min, Bool, true, false, ◌&&◌, eqb, List, [], ◌++◌, length, get_or, set, sym, refl, ap, ◌∙◌, subst, inl, arith, length-drop, length-take, w32, SFits, eq-eqb, ne_eqb}
+use Rattle.std.proofs.Common.{◌≡◌, ℕ, ◌+◌, ◌-◌, ◌*◌, ◌/◌, ◌%◌, ◌<◌, ◌≤◌, min, Bool, true, false, ◌&&◌, eqb, List, [], ◌++◌, length, get_or, take, drop, set, sym, refl, ap, ◌∙◌, subst, inl, arith, length-take, w32, SFits, append_assoc, eq-eqb, ne_eqb}
 use lib.Seq.{set-get_or}
+use Rattle.std.specs.List.{copy_within}
+use Rattle.laws.proofs.Lists.{part_length}
 use mir.ValLaws.{to_z-of_z}
 use Rattle.laws.specs.Choice.{pick}
 use Rattle.laws.specs.Lists.{part}
@@ -55,23 +57,35 @@ module _ (s : List ℕ) (k i at : ℕ) (place : at ≡ request_place k i) where
     pub asks_other : (octet s (request_tag_place k i) ≡ t → ⊥) → asks (entry_named name) (get_or (rooms_in s k) i no_request) ≡ false
     asks_other n = asks_is ∙ ap (λ b. b && same (room_name s at) name) (ne_eqb (octet s (request_tag_place k i)) (tag_of name) (λ e. n (e ∙ sym own)))
 
-    pub asks_name : (r : Bool) → octet s (request_tag_place k i) ≡ t → r ≡ same (room_name s at) name → r ≡ asks (entry_named name) (get_or (rooms_in s k) i no_request)
+    pub asks_name : (r : Bool) → octet s (request_tag_place k i) ≡ t → r ≡ same (room_name s at) name
+        → r ≡ asks (entry_named name) (get_or (rooms_in s k) i no_request)
     asks_name r e f =
         f ∙ sym (asks_is ∙ ap (λ b. b && same (room_name s at) name) (eq-eqb (octet s (request_tag_place k i)) (tag_of name) (e ∙ own)))
 
-  pub octets_read : (v q : List ℕ) → i < 64 → at + 28 ≤ length s → v ≡ part s at 28 → q ≡ v
-      → (length q ≡ 28) × (request_of (octet s (request_tag_place k i)) q ≡ get_or (rooms_in s k) i no_request)
-  octets_read v q h fits e w =
-      let n : length v ≡ 28 = ap length e ∙ simp (length-take, length-drop) (omega arith) in (
-        ap length w ∙ n,
-        ap (request_of (octet s (request_tag_place k i))) (w ∙ e ∙ ap (λ (a : ℕ). part s a 28) place) ∙ request_of_lem s k i ∙ sym (rooms_get s k i h),
-      )
-
-  pub room_put : (t v : List ℕ) (tag to : ℕ) → k < 8 → i < 64 → length s ≡ memory_size → length v ≡ 28 → to ≡ request_tag_place k i → t ≡ set (put_at s at v) to tag
+  pub room_put : (t v : List ℕ) (tag to : ℕ) → k < 8 → i < 64 → length s ≡ memory_size → length v ≡ 28 → to ≡ request_tag_place k i
+      → t ≡ set (put_at s at v) to tag
       → Listed k (field2 s (list_place k)) (set (rooms_in s k) i (request_of tag v)) s t
   room_put t v tag to slot room size full f e =
       subst (Listed k (field2 s (list_place k)) (set (rooms_in s k) i (request_of tag v)) s) (sym (e ∙ (λ z. set (put_at s (place z) v) (f z) tag)))
       (listed_room s k slot size tag v i room full)
+
+-- a room copied over another
+pub room_copied : (s t : List ℕ) (k i j at to : ℕ) → k < 8 → i < 64 → j < 64 → length s ≡ memory_size → at ≡ request_place k i → to ≡ request_place k j
+    → t ≡ set (copy_within s at (at + 28) to) (request_tag_place k j) (octet s (request_tag_place k i))
+    → Listed k (field2 s (list_place k)) (set (rooms_in s k) j (get_or (rooms_in s k) i no_request)) s t
+unfolding put_at
+room_copied s t k i j at to slot from room size place place' e =
+    let v : List ℕ = part s at 28 in
+    let n : length v ≡ 28 = part_length s at 28 (omega arith) in
+    let m : at + 28 - at ≡ 28 = omega arith in
+    let put : copy_within s at (at + 28) to ≡ put_at s to v =
+    append_assoc (take to s) (take (at + 28 - at) (drop at s)) (drop (to + (at + 28 - at)) s)
+    ∙ ap (λ (z : ℕ). take to s ++ (take z (drop at s) ++ drop (to + z) s)) m ∙ ap (λ (z : ℕ). take to s ++ (v ++ drop (to + z) s)) (sym n) in
+    let held : request_of (octet s (request_tag_place k i)) v ≡ get_or (rooms_in s k) i no_request =
+    ap (λ (z : ℕ). request_of (octet s (request_tag_place k i)) (part s z 28)) place ∙ request_of_lem s k i ∙ sym (rooms_get s k i from) in
+    subst (λ (q : Request). Listed k (field2 s (list_place k)) (set (rooms_in s k) j q) s t) held
+    (room_put s k j to place' t v (octet s (request_tag_place k i)) (request_tag_place k j) slot room size n refl
+    (e ∙ ap (λ (z : List ℕ). set z (request_tag_place k j) (octet s (request_tag_place k i))) put))
 
 pub sized : (s t : List ℕ) (k at n : ℕ) → at ≡ list_place k → k < 8 → length s ≡ memory_size → t ≡ put_at s at (put2 n []) → Listed k n (rooms_in s k) s t
 sized s t k at n place slot size e = subst (Listed k n (rooms_in s k) s) (sym (e ∙ ap (λ (z : ℕ). put_at s z (put2 n [])) place)) (listed_size s k slot size n)

@@ -1,14 +1,14 @@
 -- Octets rotated, and with them the requests of a list.
 -- The octets are given by where each one came from; so room j holds what room j + 4 held, or one of the first four; the list follows cell by cell.
 -- Assumes nothing.
-use Rattle.std.proofs.Common.{◌≡◌, ℕ, ◌+◌, ◌-◌, ◌*◌, ◌<◌, ◌≤◌, min, ◌⊎◌, List, [], ◌∷◌, ◌++◌, length, get_or, take, drop, set, replicate, sym, refl, ap, ◌∙◌, inl, inr, add-one, arith, length-append, length-drop, drop_of_length-le, length-take, get_or-drop, take_all, drop-cons, get_or-take, take_at, get_or-append-add, ext_get_or}
+use Rattle.std.proofs.Common.{◌≡◌, ℕ, ◌+◌, ◌-◌, ◌*◌, ◌<◌, ◌≤◌, min, ◌⊎◌, List, ◌++◌, length, get_or, take, drop, sym, ap, ◌∙◌, append_assoc, inl, inr, arith, length-append, length-drop, drop_of_length-le, length-take, get_or-drop, take_all, get_or-take, get_or-append-add, ext_get_or}
 use native.Mathlib.Decide.{dec_le}
 use lib.ListN.{get_or-append}
-use lib.Seq.{set_split}
+use lib.Seq.{paste}
 use Rattle.laws.specs.Lists.{part}
 use Rattle.laws.specs.Puts.{put_at}
-use Rattle.laws.proofs.Lists.{part_split, part_length}
-use Rattle.laws.proofs.Puts.{put_none, put_put, put_length}
+use Rattle.laws.proofs.Lists.{part_length}
+use Rattle.laws.proofs.Puts.{put_put, put_length}
 use Rattle.protocol.specs.Fields.{octet, field2}
 use Rattle.rules.specs.Server.{Request}
 use Rattle.rules.specs.Requests.{rotated}
@@ -20,43 +20,22 @@ use Rattle.memory.proofs.Rooms.{octet_part, request_of_lem, rooms_length, rooms_
 use Rattle.memory.proofs.RequestSteps.{list_get}
 
 -- ---- octets moved up
-set_put : (l : List ℕ) (i x : ℕ) → i < length l → set l i x ≡ put_at l i (x ∷ [])
+moved_up : (s u : List ℕ) (at by n m : ℕ) → at + by + n ≤ length s → m ≡ n → u ≡ paste s at (drop (at + by) s) m → u ≡ put_at s at (part s (at + by) n)
 unfolding put_at
-set_put l i x h = set_split l i x h ∙ ap (λ (j : ℕ). take i l ++ (x ∷ drop j l)) (sym (add-one i))
+moved_up s u at by n m h e f =
+    let l : m ≡ length (part s (at + by) n) = e ∙ sym (part_length s (at + by) n h) in
+    f ∙ append_assoc (take at s) (take m (drop (at + by) s)) (drop (at + m) s)
+    ∙ (λ z. take at s ++ (take (e z) (drop (at + by) s) ++ drop (at + l z) s))
 
-part_one : (s : List ℕ) (at : ℕ) → at < length s → part s at 1 ≡ octet s at ∷ []
-part_one s at h = ap (take 1) (drop-cons s at 0 h)
-
-module _ (s : List ℕ) (at by : ℕ) where
-  -- the first i are
-  abbrev pub moved : ℕ → List ℕ
-  moved i = put_at s at (part s (at + by) i)
-
-  pub moved_none : s ≡ moved 0
-  moved_none = (put_none s at).octets
-
-  moved_one : (i : ℕ) → at + by + i < length s → set (moved i) (at + i) (octet (moved i) (at + by + i)) ≡ moved (i + 1)
-  moved_one i h =
-      let v : List ℕ = part s (at + by) i in
-      let n : length v ≡ i = part_length s (at + by) i (omega arith) in
-      let room : at + length v ≤ length s = omega arith in
-      let size : length (put_at s at v) ≡ length s = put_length s at v room in
-      let x : octet (put_at s at v) (at + by + i) ≡ octet s (at + by + i) = put_other s v at room (at + by + i) (inr (omega arith)) in
-      set_put (put_at s at v) (at + i) (octet (put_at s at v) (at + by + i)) (omega arith)
-      ∙ (λ z. put_at (put_at s at v) (at + sym n z) (x z ∷ [])) ∙ put_put s at v (octet s (at + by + i) ∷ []) room
-      ∙ ap (put_at s at) (sym (part_split s (at + by) i 1 (at + by + i) refl ∙ ap (λ (l : List ℕ). v ++ l) (part_one s (at + by + i) h)))
-
-  pub moved_more : (m : List ℕ) (i : ℕ) → at + by + i < length s → m ≡ moved i → set m (at + i) (octet m (at + by + i)) ≡ moved (i + 1)
-  moved_more m i h e = ap (λ (l : List ℕ). set l (at + i) (octet l (at + by + i))) e ∙ moved_one i h
-
-  -- and the others behind them
-  pub rotated_octets : (n m : ℕ) (q t u : List ℕ) → m ≡ n - by → by ≤ n → at + n ≤ length s → q ≡ part s at by → t ≡ moved m → u ≡ put_at t (at + m) q → u
-      ≡ rotated_at at n by s
-  rotated_octets n m q t u e h g p f k =
-      let w : List ℕ = part s (at + by) m in
-      let l : length w ≡ m = part_length s (at + by) m (omega arith) in
-      k ∙ (λ z. put_at (f z) (at + sym l z) (p z)) ∙ put_put s at w (part s at by) (omega arith)
-      ∙ ap (λ (j : ℕ). put_at s at (part s (at + by) j ++ part s at by)) e
+-- and the others behind them
+pub rotated_octets : (s : List ℕ) (at by n k to : ℕ) (q t u : List ℕ) → by ≤ n → at + n ≤ length s → k ≡ n - by → to ≡ at + (n - by) → q ≡ part s at by
+    → t ≡ paste s at (drop (at + by) s) k → u ≡ put_at t to q → u ≡ rotated_at at n by s
+rotated_octets s at by n k to q t u h g e d p f j =
+    let w : List ℕ = part s (at + by) (n - by) in
+    let l : length w ≡ n - by = part_length s (at + by) (n - by) (omega arith) in
+    let m : t ≡ put_at s at w = moved_up s t at by (n - by) k (omega arith) e f in
+    let b : to ≡ at + length w = omega arith in
+    j ∙ (λ z. put_at (m z) (b z) (p z)) ∙ put_put s at w (part s at by) (omega arith)
 
 -- ---- where each octet came from
 module _ (s : List ℕ) (at n by : ℕ) (h : by ≤ n) (g : at + n ≤ length s) where
@@ -224,15 +203,3 @@ rotate_none s k n slot long few =
     let h : length l ≤ 4 = omega arith in
     let e : l ≡ rotated l = sym (λ z. drop_of_length-le l h z ++ take_all 4 l h z) in
     (listed_none s k slot).others ∙ ap (λ (z : List Request). requests_put k z (memory_of s)) (e ∙ ap rotated (sym (requests_of_lem s k slot)))
-
--- the octets that `first_of` keeps
-pub first_kept : (s v q : List ℕ) (at n : ℕ) → n ≤ 112 → at + n ≤ length s → v ≡ part s at n → q ≡ take (length v) v ++ drop (length v) (replicate 112 0)
-    → (length q ≡ 112) × (take n q ≡ part s at n)
-first_kept s v q at n h fits e f =
-    let rest : List ℕ = drop (length v) (replicate 112 0) in
-    let m : length v ≡ n = ap length e ∙ part_length s at n fits in
-    let w : take (length v) v ≡ v = take_all (length v) v (omega arith) in
-    let g : q ≡ v ++ rest = f ∙ ap (λ (z : List ℕ). z ++ rest) w in
-    let a = length-append v rest in
-    let b : length rest ≡ 112 - length v = length-drop (length v) (replicate 112 0) in
-    (ap length g ∙ a ∙ omega arith, ap (take n) g ∙ take_at v rest n m ∙ e)

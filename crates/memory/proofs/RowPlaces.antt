@@ -1,17 +1,16 @@
 -- A row by its octets: free or used, its name and its entry.
 -- Assumes nothing.
-use Rattle.std.proofs.Common.{◌≡◌, ℕ, ◌+◌, ◌-◌, ◌<◌, ◌≤◌, Bool, true, false, not, ◌&&◌, eqb, List, ◌++◌, length, take, drop, sym, refl, ap, ◌∙◌, arith, length-append, length-drop, eq-eqb, ne_eqb}
+use Rattle.std.proofs.Common.{◌≡◌, ℕ, ◌+◌, ◌-◌, ◌<◌, Bool, true, false, not, ◌&&◌, eqb, List, length, sym, refl, ap, ◌∙◌, arith, length-drop, eq-eqb, ne_eqb}
 use mathlib.Core.Bool.{false≢true}
-use lib.Seq.{take-append_seam, drop-append_seam}
 use Rattle.laws.specs.Choice.{pick}
 use Rattle.laws.specs.Tables.{same}
 use Rattle.laws.proofs.Bools.{pick_of}
-use Rattle.laws.proofs.Lists.{part_length, take_short}
-use Rattle.protocol.specs.Sizes.{id_length, payload_most}
+use Rattle.laws.proofs.Lists.{part_length}
+use Rattle.protocol.specs.Sizes.{id_length}
 use Rattle.protocol.specs.Fields.{octet}
 use Rattle.rules.specs.Server.{rows_most, Row, free, used, is_used, holds, row_at}
 use Rattle.memory.specs.Layout.{name_place, memory_size, row_place, length_place, mark_place, tag_place}
-use Rattle.memory.specs.Memory.{entry_named, tag_of, is_marked, key_room, row_name, row_entry, payload_length, payload_place, value_at, row_in, rows_in, memory_of}
+use Rattle.memory.specs.Memory.{entry_named, tag_of, is_marked, key_room, row_name, row_entry, value_at, row_in, rows_in, memory_of}
 use Rattle.memory.proofs.NameLaws.{tagged_is, tagged_originator}
 use Rattle.memory.proofs.Frame.{table_get, table_length}
 
@@ -66,6 +65,9 @@ module _ (s : List ℕ) (i : ℕ) where
   unfolding row_in
   free_row h = free_as (eqb (octet s (length_place i)) 0) h
 
+  pub not_held : (name : List ℕ) → is_used (row_in s i) ≡ false → holds (entry_named name) (row_in s i) ≡ false
+  not_held name h = ap (holds (entry_named name)) (free_row h)
+
   -- what holds of a free row and of a used one with these octets
   pub row_case : (P : Row → Type 0) → P free → P used_row → P (row_in s i)
   unfolding row_in
@@ -75,11 +77,6 @@ module _ (s : List ℕ) (i : ℕ) where
 originator_length : (s : List ℕ) (i : ℕ) → length (row_entry s i).originator ≡ length (row_name s i) - (length (row_name s i) - id_length)
 originator_length s i = ap length (tagged_originator (row_name s i) (octet s (tag_place i))) ∙ length-drop (length (row_name s i) - id_length) (row_name s i)
 
-pub payload_short : (s : List ℕ) (i : ℕ) → length (value_at s i).payload ≤ payload_most
-payload_short s i =
-    let a : length (value_at s i).payload ≤ payload_length s i = (take_short (payload_length s i) (drop (payload_place s i) s)).0 in
-    omega arith
-
 -- ---- its name
 module _ (s : List ℕ) (i : ℕ) (size : length s ≡ memory_size) (h : i < rows_most) where
   pub name_length : length (row_name s i) ≡ key_room s i + id_length
@@ -87,21 +84,6 @@ module _ (s : List ℕ) (i : ℕ) (size : length s ≡ memory_size) (h : i < row
 
   pub originator_long : length (row_entry s i).originator ≡ id_length
   originator_long = let a = originator_length s i in let n = name_length in omega arith
-
-  -- key and originator, from the whole
-  module _ (v : List ℕ) (e : v ≡ (row_entry s i).key ++ (row_entry s i).originator) where
-    less_four : length v - 4 ≡ length (row_entry s i).key
-    less_four =
-        let n : length v ≡ length (row_entry s i).key + length (row_entry s i).originator = ap length e
-        ∙ length-append (row_entry s i).key (row_entry s i).originator in
-        let o : length (row_entry s i).originator ≡ 4 = originator_long in
-        omega arith
-
-    pub entry_key : take (length v - 4) v ≡ (row_entry s i).key
-    entry_key = (λ z. take (less_four z) (e z)) ∙ take-append_seam (row_entry s i).key (row_entry s i).originator
-
-    pub entry_originator : drop (length v - 4) v ≡ (row_entry s i).originator
-    entry_originator = (λ z. drop (less_four z) (e z)) ∙ drop-append_seam (row_entry s i).key (row_entry s i).originator
 
   -- ---- whether it holds an entry
   pub held_by_name : (name : List ℕ) → 4 < length name → octet s (tag_place i) ≡ tag_of name → is_used (row_in s i) ≡ true

@@ -1,15 +1,16 @@
 -- What the searches and the count answer.
 -- Assumes nothing.
-use Rattle.std.proofs.Common.{◌≡◌, ℕ, ◌+◌, ◌<◌, ◌≤◌, Bool, true, false, not, eqb, List, length, drop, sym, ap, ◌∙◌, arith}
+use Rattle.std.proofs.Common.{◌≡◌, ℕ, ◌+◌, ◌<◌, ◌≤◌, Bool, true, false, not, eqb, List, length, drop, sym, refl, ap, ◌∙◌, arith}
+use Rattle.std.specs.Int.{from_bool}
 use Rattle.laws.specs.Choice.{pick}
 use Rattle.laws.specs.Tables.{count}
 use Rattle.protocol.specs.Fields.{octet}
 use Rattle.rules.specs.Server.{rows_most, Row, is_free, is_used, holds, row_at, rows_used}
-use Rattle.memory.specs.declared.rows.Found.{Found}
-use Rattle.memory.specs.declared.rows.Found.TheVariants.{At, Nothing}
+use Rattle.std.specs.Prelude.{Option, Some, None}
+use Rattle.protocol.specs.declared.Index.{Index}
 use Rattle.memory.specs.Layout.{lengths_at, tags_at, memory_size, length_place}
 use Rattle.memory.specs.Memory.{entry_named, tag_of, row_in, rows_in}
-use Rattle.memory.specs.Search.{FirstOctet, first_from}
+use Rattle.memory.specs.Search.{FirstOctet, FirstIndex, place_of, first_from}
 use Rattle.memory.proofs.SearchLaws.{first_hit, first_miss, first_none, passed_by, count_step, count_none}
 use Rattle.memory.proofs.RowPlaces.{rows_length, row_get, is_used_lem, octet_free, octet_used, other_tag}
 
@@ -19,7 +20,7 @@ module _ (p : Row → Bool) (s : List ℕ) (from : ℕ) where
   abbrev pub From : ℕ → Type 0
   From i = first_from p from (drop from (rows_in s)) ≡ first_from p i (drop i (rows_in s))
 
-  pub from_hit : (i : ℕ) → i < rows_most → From i → p (row_in s i) ≡ true → At i ≡ first_from p from (drop from (rows_in s))
+  pub from_hit : (i : ℕ) → i < rows_most → From i → p (row_in s i) ≡ true → Some i ≡ first_from p from (drop from (rows_in s))
   from_hit i h f t =
       let n : length (rows_in s) ≡ rows_most = rows_length s in
       sym (f ∙ first_hit p (rows_in s) i (omega arith) (ap p (row_get s i h) ∙ t))
@@ -29,7 +30,7 @@ module _ (p : Row → Bool) (s : List ℕ) (from : ℕ) where
       let n : length (rows_in s) ≡ rows_most = rows_length s in
       f ∙ first_miss p (rows_in s) i (omega arith) (ap p (row_get s i h) ∙ t)
 
-  pub from_end : (i : ℕ) → rows_most ≤ i → From i → Nothing ≡ first_from p from (drop from (rows_in s))
+  pub from_end : (i : ℕ) → rows_most ≤ i → From i → None ≡ first_from p from (drop from (rows_in s))
   from_end i h f =
       let n : length (rows_in s) ≡ rows_most = rows_length s in
       sym (f ∙ first_none p (rows_in s) i (omega arith))
@@ -43,11 +44,20 @@ passed p s c h =
     passed_by p (rows_in s) c (λ j g l. ap p (row_get s j (omega arith)) ∙ h j g (omega arith))
 
 module _ (s : List ℕ) (c : ℕ) where
-  pub by_tag : (name : List ℕ) (r : Found) → length s ≡ memory_size → 4 < length name → FirstOctet s tags_at (tag_of name) c
+  pub by_tag : (name : List ℕ) (r : Option ℕ) → length s ≡ memory_size → 4 < length name → FirstOctet s tags_at (tag_of name) c
       → r ≡ first_from (holds (entry_named name)) c (drop c (rows_in s)) → r ≡ first_from (holds (entry_named name)) 0 (rows_in s)
   by_tag name r size h f e =
       e ∙ sym (passed (holds (entry_named name)) s c (λ j g l. other_tag s j size l name h (λ z. let q = f.none_before j l z in omega arith)))
 
+-- no row has the tag
+pub by_no_tag : (s name : List ℕ) → length s ≡ memory_size → 4 < length name → FirstIndex s tags_at (tag_of name) None
+    → None ≡ first_from (holds (entry_named name)) 0 (rows_in s)
+by_no_tag s name size h f =
+    let n : length (rows_in s) ≡ rows_most = rows_length s in
+    sym (passed (holds (entry_named name)) s 64 (λ j g l. other_tag s j size l name h (f j l))
+    ∙ first_none (holds (entry_named name)) (rows_in s) 64 (omega arith))
+
+module _ (s : List ℕ) (c : ℕ) where
   used_not : (j : ℕ) → (octet s (length_place j) ≡ 0 → ⊥) → is_free (row_in s j) ≡ false
   used_not j n = ap is_free (octet_used s j n)
 
@@ -55,17 +65,29 @@ module _ (s : List ℕ) (c : ℕ) where
     none_free : first_from is_free 0 (rows_in s) ≡ first_from is_free c (drop c (rows_in s))
     none_free = passed is_free s c (λ j g l. used_not j (λ z. let q = f.none_before j l z in omega arith))
 
-    pub free_hit : c < rows_most → At c ≡ first_from is_free 0 (rows_in s)
+    free_hit : c < rows_most → Some c ≡ first_from is_free 0 (rows_in s)
     free_hit h =
         let n : length (rows_in s) ≡ rows_most = rows_length s in
         sym (none_free ∙ first_hit is_free (rows_in s) c (omega arith) (ap is_free (row_get s c h ∙ octet_free s c (f.there h))))
 
-    pub free_miss : rows_most ≤ c → Nothing ≡ first_from is_free 0 (rows_in s)
+    free_miss : rows_most ≤ c → None ≡ first_from is_free 0 (rows_in s)
     free_miss h =
         let n : length (rows_in s) ≡ rows_most = rows_length s in
         sym (none_free ∙ first_none is_free (rows_in s) c (omega arith))
 
+pub free_place : (s : List ℕ) (o : Option (Index 64)) → FirstIndex s lengths_at 0 o → place_of o ≡ first_from is_free 0 (rows_in s)
+free_place s (Some i) f = free_hit s i.at f i.below
+free_place s None f = free_miss s 64 (record { there = λ h. absurd (omega arith); none_before = λ j h e. absurd (f j h e) }) (omega arith)
+
 -- ---- the count
+one_of : (b : Bool) → from_bool b ≡ pick b 1 0
+one_of true = refl
+one_of false = refl
+
+one_most : (b : Bool) → pick b 1 0 ≤ 1
+one_most true = omega arith
+one_most false = omega arith
+
 module _ (s : List ℕ) where
   -- n rows before i are used
   pub record Counted (n i : ℕ) : Type 0 where
@@ -73,17 +95,15 @@ module _ (s : List ℕ) where
     pub few : n ≤ i
     pub counted : rows_used (rows_in s) ≡ n + count is_used (drop i (rows_in s))
 
-  pub counted_none : Counted 0 0
-  counted_none = record { within = omega arith; few = omega arith; counted = omega arith }
-
-  pub counted_more : (n i x : ℕ) → i < rows_most → Counted n i → (x ≡ pick (not (eqb (octet s (length_place i)) 0)) 1 0) × (x ≤ 1) → Counted (n + x) (i + 1)
+  pub counted_more : (n i x : ℕ) → i < rows_most → Counted n i → x ≡ from_bool (not (eqb (octet s (length_place i)) 0)) → Counted (n + x) (i + 1)
   counted_more n i x h c e =
       let k : length (rows_in s) ≡ rows_most = rows_length s in
       let f = c.few in
       let w = c.within in
       let q = c.counted in
-      let l : x ≤ 1 = e.1 in
-      let z : x ≡ pick (is_used (row_at (rows_in s) i)) 1 0 = e.0 ∙ ap (λ b. pick b 1 0) (sym (is_used_lem s i) ∙ ap is_used (sym (row_get s i h))) in
+      let z : x ≡ pick (is_used (row_at (rows_in s) i)) 1 0 = e ∙ one_of (not (eqb (octet s (length_place i)) 0))
+      ∙ ap (λ b. pick b 1 0) (sym (is_used_lem s i) ∙ ap is_used (sym (row_get s i h))) in
+      let l : x ≤ 1 = rw z (one_most (is_used (row_at (rows_in s) i))) in
       let r : count is_used (drop i (rows_in s)) ≡ x + count is_used (drop (i + 1) (rows_in s)) = rw z (count_step is_used (rows_in s) i (omega arith)) in
       record { within = omega arith; few = omega arith; counted = omega arith }
 

@@ -1,10 +1,9 @@
 -- Rows freed at the end of an event, and a fresh memory.
 -- Assumes nothing.
-use Rattle.std.proofs.Common.{◌≡◌, ℕ, zero, suc, ◌+◌, ◌-◌, ◌*◌, ◌/◌, ◌%◌, ◌<◌, ◌≤◌, Bool, true, false, not, ◌&&◌, eqb, ltb, ◌⊎◌, List, [], ◌∷◌, length, take, set, replicate, pos, negsuc, sym, refl, ap, ◌∙◌, inl, inr, not-suc-le-zero, arith, length-set, get_or-set_other, get_or-set_same, ltb-true, eq-eqb, ne_eqb}
+use Rattle.std.proofs.Common.{◌≡◌, ℕ, zero, suc, ◌+◌, ◌-◌, ◌*◌, ◌/◌, ◌%◌, ◌<◌, ◌≤◌, min, Bool, true, false, not, ◌&&◌, eqb, ltb, ◌⊎◌, List, [], ◌∷◌, length, take, set, replicate, pos, negsuc, sym, refl, ap, ◌∙◌, inl, inr, arith, ltb-true, eq-eqb, ne_eqb, eqb-true}
 use mathlib.Core.Bool.{and-false, false≢true}
 use native.Mathlib.Decide.{ℕ_discrete}
 use lib.Signed.{le_z}
-use lib.ListN.{get_or-eq_default}
 use lib.Seq.{set-get_or}
 use borrow.Author.Tests.{eqb-false, lt-leb}
 use mir.Val.{sel}
@@ -17,8 +16,8 @@ use Rattle.rules.specs.Server.{slots_most, rows_most, Row, free, row_at}
 use Rattle.rules.specs.Rows.{is_purged, any_slot, to_free, swept_row}
 use Rattle.memory.specs.Layout.{row_place, length_place, mark_place, top_place, list_place, kept_place}
 use Rattle.memory.specs.Memory.{value_at, is_marked, bits_at, row_in, rows_in, request_in, requests_in, kept_in, memory_of, with_rows, fresh_memory}
-use Rattle.memory.specs.Search.{with_row, LastOrNone, FirstLast}
-use Rattle.memory.proofs.RowPlaces.{rows_length, row_get, octet_free, octet_used}
+use Rattle.memory.specs.Search.{with_row, LastOrNone}
+use Rattle.memory.proofs.RowPlaces.{rows_length, row_get, is_used_lem, octet_free, octet_used, free_row}
 use Rattle.memory.proofs.RowLoops.{front}
 
 -- ---- no mark is an octet 0
@@ -72,6 +71,13 @@ module _ (b : ℕ) (low : b < 256) where
   pub any_slot_lem : any_slot (is_marked b) ≡ not (eqb b 0)
   any_slot_lem = any_by (any_slot (is_marked b)) refl
 
+no_marks_by : (x : ℕ) (b : Bool) → eqb x 0 ≡ b → not (not b) ≡ true → x ≡ 0
+no_marks_by x true e h = eqb-true x 0 e
+no_marks_by x false e h = absurd (false≢true h)
+
+pub no_marks : (x : ℕ) → not (not (eqb x 0)) ≡ true → x ≡ 0
+no_marks x = no_marks_by x (eqb x 0) refl
+
 -- ---- a row to free
 -- 2147483647 is the bits 0x7FFFFFFF, no other
 bits_by : (n : ℕ) (b : Bool) → ltb n 2147483648 ≡ b → (n ≡ 2147483647 → ⊥) → le_z (pos 2147483647) (sel b (pos n) (negsuc (4294967296 - suc n))) ≡ false
@@ -85,8 +91,11 @@ top_octet : (a b c d : ℕ) → b < 256 → c < 256 → d < 256 → (a ≡ 127 �
 top_octet a b c d hb hc hd n e = n (omega arith)
 
 module _ (s : List ℕ) (i : ℕ) where
-  pub kept_free : octet s (length_place i) ≡ 0 → to_free (row_in s i) ≡ false
+  kept_free : octet s (length_place i) ≡ 0 → to_free (row_in s i) ≡ false
   kept_free z = ap to_free (octet_free s i z)
+
+  pub kept_unused : not (eqb (octet s (length_place i)) 0) ≡ false → to_free (row_in s i) ≡ false
+  kept_unused h = ap to_free (free_row s i (is_used_lem s i ∙ h))
 
   module _ (u : octet s (length_place i) ≡ 0 → ⊥) where
     told : to_free (row_in s i) ≡ (is_purged (value_at s i).number && not (any_slot (is_marked (octet s (mark_place i)))))
@@ -119,18 +128,9 @@ module _ (s : List ℕ) (i : ℕ) where
       by_length (octet s (length_place i)) refl (λ u. told u ∙ ap (λ b. b && not (any_slot (is_marked (octet s (mark_place i))))) p)
 
 -- ---- the first that may be one
-pub last_none : (size marks top i : ℕ) → (size ≡ 0) ⊎ ((marks ≡ 0 → ⊥) ⊎ (top ≡ 127 → ⊥)) → LastOrNone size marks top i 255
-last_none size marks top i w = record { may = λ h. absurd (omega arith); not = λ _. w }
-
-pub last_this : (size marks top i : ℕ) → LastOrNone size marks top i i
-last_this size marks top i = record { may = λ h. refl; not = λ n. absurd (n refl) }
-
 -- no row before r, of the first i, is to be freed
 abbrev pub LastTo : List ℕ → ℕ → ℕ → Type 0
 LastTo s i r = (i ≤ 64) × ((j : ℕ) → j < r → j < i → to_free (row_in s j) ≡ false)
-
-pub last_start : (s : List ℕ) (r : ℕ) → LastTo s 0 r
-last_start s r = (omega arith, λ j a b. absurd (omega arith))
 
 module _ (s : List ℕ) (low : (j : ℕ) → octet s j < 256) where
   not_this : (i : ℕ) → (octet s (length_place i) ≡ 0) ⊎ ((octet s (mark_place i) ≡ 0 → ⊥) ⊎ (octet s (top_place i) ≡ 127 → ⊥)) → to_free (row_in s i) ≡ false
@@ -139,14 +139,11 @@ module _ (s : List ℕ) (low : (j : ℕ) → octet s j < 256) where
   not_this i (inr (inr n)) = kept_number s i low n
 
   pub last_more : (i r x r' : ℕ) → i < 64 → LastTo s i r → LastOrNone (octet s (length_place i)) (octet s (mark_place i)) (octet s (top_place i)) i x
-      → ((r' ≤ r) × (r' ≤ x)) × ((r' ≡ r) ⊎ (r' ≡ x)) → LastTo s (i + 1) r'
-  last_more i r x r' h f g c = (omega arith, λ j a b. by j a b (ℕ_discrete j i)) where
+      → r' ≡ min r x → LastTo s (i + 1) r'
+  last_more i r x r' h f g m = (omega arith, λ j a b. by j a b (ℕ_discrete j i)) where
     by : (j : ℕ) → j < r' → j < i + 1 → Dec (j ≡ i) → to_free (row_in s j) ≡ false
-    by j a b (yes e) = ap (λ n. to_free (row_in s n)) e ∙ not_this i (g.not (λ z. omega (arith, c.0.1, a, e, z)))
-    by j a b (no e) = f.1 j (omega (arith, c.0.0)) (omega (arith, e))
-
-  pub last_all : (i r : ℕ) → 64 ≤ i → LastTo s i r → FirstLast s r
-  last_all i r h f = λ j a b. f.1 j a (omega arith)
+    by j a b (yes e) = ap (λ n. to_free (row_in s n)) e ∙ not_this i (g.not (λ z. omega (arith, m, a, e, z)))
+    by j a b (no e) = f.1 j (omega (arith, m, a)) (omega (arith, e))
 
 -- ---- the rows before it stay
 front_same : (l : List Row) (i : ℕ) → ((j : ℕ) → j < i → j < length l → to_free (row_at l j) ≡ false) → front swept_row free l i ≡ l
@@ -156,7 +153,8 @@ front_same (r ∷ l) zero h = refl
 front_same (r ∷ l) (suc i) h =
     λ z. pick (h 0 (omega arith) (omega arith) z) free r ∷ front_same l i (λ j a b. h (suc j) (omega arith) (omega arith)) z
 
-pub swept_first : (s : List ℕ) (r : ℕ) → FirstLast s r → memory_of s ≡ with_rows (front swept_row free (rows_in s) r) (memory_of s)
+pub swept_first : (s : List ℕ) (r : ℕ) → ((j : ℕ) → j < r → j < rows_most → to_free (row_in s j) ≡ false)
+    → memory_of s ≡ with_rows (front swept_row free (rows_in s) r) (memory_of s)
 unfolding memory_of
 swept_first s r f =
     let n : length (rows_in s) ≡ rows_most = rows_length s in
@@ -164,9 +162,6 @@ swept_first s r f =
     (sym (front_same (rows_in s) r (λ j a b. ap to_free (row_get s j (omega arith)) ∙ f j a (omega arith))))
 
 -- ---- row i swept
-pub swept_now : (s t : List ℕ) (i : ℕ) {b : Bool} → b ≡ to_free (row_in s i) → b ≡ true → memory_of t ≡ with_row s i free → memory_of t
-    ≡ with_row s i (swept_row (row_in s i))
-swept_now s t i e h m = m ∙ ap (λ (x : Bool). with_row s i (pick x free (row_in s i))) (sym (sym e ∙ h))
 
 pub swept_not : (s : List ℕ) (i : ℕ) {b : Bool} → i < rows_most → b ≡ to_free (row_in s i) → b ≡ false → memory_of s ≡ with_row s i (swept_row (row_in s i))
 unfolding memory_of
@@ -202,27 +197,10 @@ module _ (s : List ℕ) (zeros : (j : ℕ) → octet s j ≡ 0) where
     kept = table_all (kept_in s) [] no_kept slots_most 0 j;
   }
 
--- the first i octets are zero
-pub record ZerosTo (n i : ℕ) (s : List ℕ) : Type 0 where
-  pub size : length s ≡ n
-  pub within : i ≤ n
-  pub zeros : (j : ℕ) → j < i → octet s j ≡ 0
+zero_at : (n j : ℕ) → octet (replicate n 0) j ≡ 0
+zero_at zero j = refl
+zero_at (suc n) zero = refl
+zero_at (suc n) (suc j) = zero_at n j
 
-pub zeros_none : (s : List ℕ) → ZerosTo (length s) 0 s
-zeros_none s = record { size = refl; within = omega arith; zeros = λ j h. absurd (not-suc-le-zero h) }
-
-pub zeros_more : (n i : ℕ) (s : List ℕ) → i < n → ZerosTo n i s → ZerosTo n (i + 1) (set s i 0)
-zeros_more n i s h z = record {
-  size = length-set s i 0 ∙ z.size;
-  within = omega arith;
-  zeros = λ j k. by j k (ℕ_discrete j i);
-} where
-  by : (j : ℕ) → j < i + 1 → Dec (j ≡ i) → octet (set s i 0) j ≡ 0
-  by j k (yes e) = let l = z.size in ap (octet (set s i 0)) e ∙ get_or-set_same s i 0 0 (omega arith)
-  by j k (no e) = get_or-set_other s i j 0 0 e ∙ z.zeros j (omega arith)
-
-pub zeros_all : (n i : ℕ) (s : List ℕ) → n ≤ i → ZerosTo n i s → memory_of s ≡ fresh_memory
-zeros_all n i s h z = zero_memory s (λ j. by j (lib.Dec.ltb j n) refl) where
-  by : (j : ℕ) (b : Bool) → lib.Dec.ltb j n ≡ b → octet s j ≡ 0
-  by j true e = z.zeros j (let l = borrow.Author.Tests.ltb-true j n e in omega arith)
-  by j false e = let l = borrow.Author.Tests.ltb-false j n e in let m = z.size in get_or-eq_default s 0 (omega arith)
+pub zeros_filled : (n : ℕ) (s : List ℕ) → s ≡ replicate n 0 → memory_of s ≡ fresh_memory
+zeros_filled n s e = zero_memory s (λ j. ap (λ (l : List ℕ). octet l j) e ∙ zero_at n j)

@@ -5,11 +5,11 @@ use mathlib.Core.Bool.{false≢true}
 use Rattle.laws.specs.Choice.{pick}
 use Rattle.laws.specs.Tables.{has, find, change, count}
 use Rattle.rules.specs.Server.{Row, free, row_at}
-use Rattle.memory.specs.declared.rows.Found.TheVariants.{At, Nothing}
+use Rattle.std.specs.Prelude.{Some, None}
 use Rattle.memory.specs.Search.{first_from}
 
 module _ (p : Row → Bool) (rows : List Row) (i : ℕ) where
-  pub first_hit : i < length rows → p (row_at rows i) ≡ true → first_from p i (drop i rows) ≡ At i
+  pub first_hit : i < length rows → p (row_at rows i) ≡ true → first_from p i (drop i rows) ≡ Some i
   unfolding first_from
   first_hit h t = rw (drop-cons rows i free h, t)
 
@@ -17,7 +17,7 @@ module _ (p : Row → Bool) (rows : List Row) (i : ℕ) where
   unfolding first_from
   first_miss h t = rw (add-one, drop-cons rows i free h, t)
 
-  pub first_none : length rows ≤ i → first_from p i (drop i rows) ≡ Nothing
+  pub first_none : length rows ≤ i → first_from p i (drop i rows) ≡ None
   unfolding first_from
   first_none h = rw (drop_of_length-le rows h)
 
@@ -60,53 +60,53 @@ module _ (p : Row → Bool) where
         elim [ zero ↦ λ h. q | suc j ↦ λ h. f.lowest j (omega arith) ];
   }
 
-  found_by : (r : Row) (rows : List Row) (k i : ℕ) → ((j : ℕ) → first_from p (suc k) rows ≡ At j → (n : ℕ) × ((j ≡ suc k + n) × First p rows n))
-      → (b : Bool) → p r ≡ b → pick b (At k) (first_from p (suc k) rows) ≡ At i → (n : ℕ) × ((i ≡ k + n) × First p (r ∷ rows) n)
+  found_by : (r : Row) (rows : List Row) (k i : ℕ) → ((j : ℕ) → first_from p (suc k) rows ≡ Some j → (n : ℕ) × ((j ≡ suc k + n) × First p rows n))
+      → (b : Bool) → p r ≡ b → pick b (Some k) (first_from p (suc k) rows) ≡ Some i → (n : ℕ) × ((i ≡ k + n) × First p (r ∷ rows) n)
   found_by r rows k i ih true q e = let z : k ≡ i = cc in (0, (omega arith, record { passes = q; below = omega arith; lowest = λ j h. absurd (omega arith) }))
   found_by r rows k i ih false q e = let f = ih i e in (suc f.0, (let z : i ≡ suc k + f.0 = f.1.0 in omega arith, first_later r rows f.0 q f.1.1))
 
-  found_from : (rows : List Row) (k i : ℕ) → first_from p k rows ≡ At i → (n : ℕ) × ((i ≡ k + n) × First p rows n)
+  found_from : (rows : List Row) (k i : ℕ) → first_from p k rows ≡ Some i → (n : ℕ) × ((i ≡ k + n) × First p rows n)
   unfolding first_from
   found_from [] k i e = let z : ◌≡◌ {A = ℕ} 0 1 = cc in absurd (omega arith)
   found_from (r ∷ rows) k i e = found_by r rows k i (λ j. found_from rows (suc k) j) (p r) refl e
 
-  pub found : (rows : List Row) (i : ℕ) → first_from p 0 rows ≡ At i → First p rows i
+  pub found : (rows : List Row) (i : ℕ) → first_from p 0 rows ≡ Some i → First p rows i
   found rows i e = let f = found_from rows 0 i e in let e : i ≡ 0 + f.0 = f.1.0 in let z : i ≡ f.0 = omega arith in rw z f.1.1
 
   -- and such a row is found
-  find_by : (r : Row) (rows : List Row) (k : ℕ) → (i : ℕ) → ((n : ℕ) → First p rows n → first_from p (suc k) rows ≡ At (suc k + n))
-      → First p (r ∷ rows) i → pick (p r) (At k) (first_from p (suc k) rows) ≡ At (k + i)
-  find_by r rows k zero ih f = let z : k ≡ k + 0 = omega arith in rw f.passes (ap At z)
+  find_by : (r : Row) (rows : List Row) (k : ℕ) → (i : ℕ) → ((n : ℕ) → First p rows n → first_from p (suc k) rows ≡ Some (suc k + n))
+      → First p (r ∷ rows) i → pick (p r) (Some k) (first_from p (suc k) rows) ≡ Some (k + i)
+  find_by r rows k zero ih f = let z : k ≡ k + 0 = omega arith in rw f.passes (ap Some z)
   find_by r rows k (suc i) ih f =
       let z : suc k + i ≡ k + suc i = omega arith in
       let b = f.below in
-      rw (f.lowest 0 (omega arith)) (ih i (record { passes = f.passes; below = omega arith; lowest = λ j h. f.lowest (suc j) (omega arith) }) ∙ ap At z)
+      rw (f.lowest 0 (omega arith)) (ih i (record { passes = f.passes; below = omega arith; lowest = λ j h. f.lowest (suc j) (omega arith) }) ∙ ap Some z)
 
-  find_from : (rows : List Row) (k i : ℕ) → First p rows i → first_from p k rows ≡ At (k + i)
+  find_from : (rows : List Row) (k i : ℕ) → First p rows i → first_from p k rows ≡ Some (k + i)
   unfolding first_from
   find_from [] k i f = let b = f.below in absurd (omega arith)
   find_from (r ∷ rows) k i f = find_by r rows k i (λ n. find_from rows (suc k) n) f
 
-  pub finds : (rows : List Row) (i : ℕ) → First p rows i → first_from p 0 rows ≡ At i
-  finds rows i f = let z : 0 + i ≡ i = omega arith in find_from rows 0 i f ∙ ap At z
+  pub finds : (rows : List Row) (i : ℕ) → First p rows i → first_from p 0 rows ≡ Some i
+  finds rows i f = let z : 0 + i ≡ i = omega arith in find_from rows 0 i f ∙ ap Some z
 
   -- nothing is found exactly where no row passes
-  nothing_by : (r : Row) (rows : List Row) (k : ℕ) → (first_from p (suc k) rows ≡ Nothing → has p rows ≡ false) → (b : Bool)
-      → pick b (At k) (first_from p (suc k) rows) ≡ Nothing → (b || has p rows) ≡ false
+  nothing_by : (r : Row) (rows : List Row) (k : ℕ) → (first_from p (suc k) rows ≡ None → has p rows ≡ false) → (b : Bool)
+      → pick b (Some k) (first_from p (suc k) rows) ≡ None → (b || has p rows) ≡ false
   nothing_by r rows k ih true e = let z : ◌≡◌ {A = ℕ} 0 1 = cc in absurd (omega arith)
   nothing_by r rows k ih false e = ih e
 
-  pub none_found : (rows : List Row) (k : ℕ) → first_from p k rows ≡ Nothing → has p rows ≡ false
+  pub none_found : (rows : List Row) (k : ℕ) → first_from p k rows ≡ None → has p rows ≡ false
   unfolding first_from
   none_found [] k e = refl
   none_found (r ∷ rows) k e = nothing_by r rows k (none_found rows (suc k)) (p r) e
 
-  absent_by : (r : Row) (rows : List Row) (k : ℕ) → (has p rows ≡ false → first_from p (suc k) rows ≡ Nothing) → (b : Bool)
-      → (b || has p rows) ≡ false → pick b (At k) (first_from p (suc k) rows) ≡ Nothing
+  absent_by : (r : Row) (rows : List Row) (k : ℕ) → (has p rows ≡ false → first_from p (suc k) rows ≡ None) → (b : Bool)
+      → (b || has p rows) ≡ false → pick b (Some k) (first_from p (suc k) rows) ≡ None
   absent_by r rows k ih true e = absurd (false≢true (sym e))
   absent_by r rows k ih false e = ih e
 
-  pub finds_none : (rows : List Row) (k : ℕ) → has p rows ≡ false → first_from p k rows ≡ Nothing
+  pub finds_none : (rows : List Row) (k : ℕ) → has p rows ≡ false → first_from p k rows ≡ None
   unfolding first_from
   finds_none [] k e = refl
   finds_none (r ∷ rows) k e = absent_by r rows k (finds_none rows (suc k)) (p r) e

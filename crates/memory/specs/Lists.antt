@@ -1,6 +1,6 @@
 -- The request lists by their rooms: those in use come first, in order.
 -- Assumes nothing.
-use Rattle.std.specs.Prelude.{◌≡◌, ℕ, suc, ◌+◌, ◌-◌, Bool, true, false, not, ◌&&◌, ◌||◌, List, [], ◌∷◌, ◌++◌, length, replicate, nat_lt, slice_index_or, slice_set}
+use Rattle.std.specs.Prelude.{◌≡◌, ℕ, suc, ◌+◌, ◌-◌, Bool, true, false, not, ◌&&◌, Option, Some, None, List, [], ◌∷◌, ◌++◌, length, replicate, nat_lt, slice_index_or, slice_set}
 use Rattle.laws.specs.Choice.{pick}
 use Rattle.laws.specs.Lists.{part, table}
 use Rattle.laws.specs.Puts.{put_at}
@@ -36,14 +36,10 @@ pub record Listed (k n : ℕ) (rooms : List Request) (before after : List ℕ) :
   pub held : rooms_in after k ≡ rooms
   pub others : memory_of after ≡ requests_put k (requests_in after k) (memory_of before)
 
--- where the first cell that passes the test stands; the length where none does
-abbrev pub index_of : {A : Type 0} → (A → Bool) → List A → ℕ
-index_of p [] = 0
-index_of p (x ∷ xs) = pick (p x) 0 (suc (index_of p xs))
-
--- the request goes: it is for the entry, and all go or its number is no greater
-abbrev pub goes : Bool → Entry → CsaNumber → Request → Bool
-goes all e n q = asks e q && (all || not (newer q.number n))
+-- the request goes: it is for the entry, and its number is no greater than the one given, if one is
+abbrev pub goes : Option CsaNumber → Entry → Request → Bool
+goes None e q = asks e q
+goes (Some n) e q = asks e q && not (newer q.number n)
 
 -- slot k's list with a number of requests that found no room
 abbrev pub wanted_now : ℕ → ℕ → List ℕ → Wanted

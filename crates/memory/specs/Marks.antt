@@ -1,6 +1,6 @@
 -- What the functions on marks answer and leave, and what the next rows are given as.
 -- Assumes nothing.
-use Rattle.std.specs.Prelude.{◌≡◌, ℕ, ◌%◌, ◌≤◌, Bool, true, List, length, take, nat_eq}
+use Rattle.std.specs.Prelude.{◌≡◌, ℕ, ◌%◌, Bool, true, List, length, take, nat_eq}
 use Rattle.std.proofs.Math.ListN as lists
 use Rattle.laws.specs.Tables.{on, has}
 use Rattle.rules.specs.Server.{rows_most, Row, free, used, waits_for, row_at}
@@ -31,11 +31,10 @@ AnyMarks rows r = (k : ℕ) → is_marked r k ≡ has (waits_for k) rows
 abbrev pub picks_of : Picks → List ℕ
 picks_of p = take p.count p.rows
 
--- p means the rows l from row `from` on: at most four, and where to go on
+-- p means the rows l from row `from` on, and where to go on
 pub record Picked (from : ℕ) (l : List ℕ) (p : Picks) : Type 0 where
   pub chosen : picks_of p ≡ l
   pub onward : p.next ≡ behind from l
-  pub few : p.count ≤ 4
   pub full : length p.rows ≡ 4
 
 -- row i is among them

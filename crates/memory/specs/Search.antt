@@ -13,45 +13,46 @@ use Rattle.rules.specs.Server.{rows_most, Entry, Value, Row, free, used, is_free
 use Rattle.rules.specs.Rows.{filled, to_free}
 use Rattle.memory.specs.Layout.{name_place, row_place, length_place, mark_place, top_place, tag_place}
 use Rattle.memory.specs.Memory.{tag_of, payload_place, row_in, rows_in, Memory, memory_of, with_rows}
-use Rattle.memory.specs.declared.rows.Found.{Found}
-use Rattle.memory.specs.declared.rows.Found.TheVariants.{At, Nothing}
-use Rattle.memory.specs.declared.store.Inserted.{Inserted}
-use Rattle.memory.specs.declared.store.Inserted.TheVariants.{Stored, Full}
+use Rattle.std.specs.Prelude.{Option, Some, None}
+use Rattle.protocol.specs.declared.Index.{Index}
 
 abbrev pub entry : List ℕ → List ℕ → Entry
 entry key originator = record { key = key; originator = originator }
 
--- key and originator of an entry that a row has room for, and with a payload
+-- key and originator of an entry that a row has room for
 abbrev pub FitsKey : List ℕ → List ℕ → Type 0
 FitsKey key originator = ((1 ≤ length key) × (length key ≤ key_most)) × (length originator ≡ id_length)
 
+-- the same with a payload
 pub record FitsRow (key originator payload : List ℕ) : Type 0 where
   pub some_key : 1 ≤ length key
   pub key_fits : length key ≤ key_most
   pub originator_fits : length originator ≡ id_length
   pub payload_fits : length payload ≤ payload_most
 
--- a name that a row has room for, and with a payload
+-- a name that a row has room for
 abbrev pub FitsName : List ℕ → Type 0
 FitsName name = (id_length < length name) × (length name ≤ id_length + key_most)
-
-abbrev pub FitsNamed : List ℕ → List ℕ → Type 0
-FitsNamed name payload = FitsName name × (length payload ≤ payload_most)
 
 -- of 64 octets from `at` on the first that is t: its place, or a number past them
 pub record FirstOctet (s : List ℕ) (at t r : ℕ) : Type 0 where
   pub there : r < 64 → octet s (at + r) ≡ t
   pub none_before : (j : ℕ) → j < 64 → octet s (at + j) ≡ t → r ≤ j
 
--- the first row that passes the test, where the rows are counted from i on
-unfoldable pub first_from : (Row → Bool) → ℕ → List Row → Found
-first_from p i [] = Nothing
-first_from p i (r ∷ rows) = pick (p r) (At i) (first_from p (suc i) rows)
+-- the same as an index, or that none is t
+abbrev pub FirstIndex : List ℕ → ℕ → ℕ → Option (Index 64) → Type 0
+FirstIndex s at t (Some i) = FirstOctet s at t i.at
+FirstIndex s at t None = (j : ℕ) → j < 64 → octet s (at + j) ≢ t
 
--- a row that was found is one of the rows
-abbrev pub FoundBelow : Found → Type 0
-FoundBelow (At i) = i < rows_most
-FoundBelow Nothing = Unit {0}
+-- the first row that passes the test, where the rows are counted from i on
+unfoldable pub first_from : (Row → Bool) → ℕ → List Row → Option ℕ
+first_from p i [] = None
+first_from p i (r ∷ rows) = pick (p r) (Some i) (first_from p (suc i) rows)
+
+-- the place of a row that was found
+abbrev pub place_of : Option (Index 64) → Option ℕ
+place_of (Some i) = Some i.at
+place_of None = None
 
 -- ---- rows put
 -- the memory with another row i
@@ -86,9 +87,9 @@ row_put i name number payload remaining marks s =
     put_at (put_at headed (row_place i + name_place) name) (row_place i + name_place + length name) payload
 
 -- the lowest free row is filled; without one, no octet changes
-pub record Inserts (r : Row) (before after : List ℕ) (a : Inserted) : Type 0 where
+pub record Inserts (r : Row) (before after : List ℕ) (a : Option (Index 64)) : Type 0 where
   pub rows : memory_of after ≡ with_rows (filled r (rows_in before)) (memory_of before)
-  pub answer : a ≡ pick (has is_free (rows_in before)) Stored Full
+  pub answer : place_of a ≡ first_from is_free 0 (rows_in before)
   pub kept : has is_free (rows_in before) ≡ false → after ≡ before
 
 -- ---- rows to free
@@ -97,6 +98,7 @@ pub record LastOrNone (size marks top i r : ℕ) : Type 0 where
   pub may : r < 64 → r ≡ i
   pub not : (r ≢ i) → (size ≡ 0) ⊎ ((marks ≢ 0) ⊎ (top ≢ 127))
 
--- no row before r is to be freed
-abbrev pub FirstLast : List ℕ → ℕ → Type 0
-FirstLast s r = (j : ℕ) → j < r → j < rows_most → to_free (row_in s j) ≡ false
+-- no row before i is to be freed, or none at all
+abbrev pub FirstLast : List ℕ → Option (Index 64) → Type 0
+FirstLast s (Some i) = (j : ℕ) → j < i.at → to_free (row_in s j) ≡ false
+FirstLast s None = (j : ℕ) → j < rows_most → to_free (row_in s j) ≡ false

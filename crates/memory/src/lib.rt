@@ -1,5 +1,5 @@
 // The server's rows, marks, request lists and kept CAs, in one memory that the caller lends.
-// Every function is below the events: it asks that the memory has its size, and nothing of what it holds.
+// Every function is below the events: it asks nothing of what the memory holds, but that a row which is handed in is the one that was found.
 #![tactic(auto)]
 
 pub mod entries;
@@ -16,3 +16,6 @@ mod sizes;
 pub mod store;
 pub mod summaries;
 mod tags;
+
+// The memory that a host lends.
+pub type Storage = [u8; 21504];

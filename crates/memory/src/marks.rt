@@ -3,67 +3,47 @@ ghost use Rattle.std.specs.Prelude.{◌≡◌, ◌^◌, ◌<◌, true, false, �
 ghost use Rattle.laws.specs.Choice.{pick};
 ghost use Rattle.laws.specs.Tables.{on};
 ghost use Rattle.protocol.specs.Numbers as definition;
-ghost use Rattle.rules.specs.Server.{slots_most, rows_most, waits_for, row_at};
+ghost use Rattle.rules.specs.Server.{waits_for, row_at};
 ghost use Rattle.rules.specs.Rows as rules;
 ghost use Rattle.rules.specs.Updates.{waits_again, replied, answer_waits};
-ghost use Rattle.memory.specs.Layout.{memory_size};
 ghost use Rattle.memory.specs.Memory.{is_marked, value_at, rows_in, memory_of, with_rows};
 ghost use Rattle.memory.specs.Marks.{with_marks, marked, changed_at, AnyMarks};
 
 use crate::layout::{LENGTHS_AT, MARKS_AT, ROWS};
-use crate::rows;
-use protocol::CsaNumber;
+use crate::rows::RowIndex;
+use crate::{Storage, rows};
+use protocol::{CsaNumber, Index, SlotIndex};
 
 // ---- an octet of marks
-fn power_of(k: usize) -> u8
-    requires { k < slots_most }
-    ensures { (result ≡ 2 ^ k) × (0 < result) }
+fn power_of(k: SlotIndex) -> u8
+    ensures { (result ≡ 2 ^ k.at) × (0 < result) }
 {
-    match k {
-        0 => 1,
-        1 => 2,
-        2 => 4,
-        3 => 8,
-        4 => 16,
-        5 => 32,
-        6 => 64,
-        _ => 128,
-    }
+    1 << k.at
 }
 
-pub fn is_marked(b: u8, k: usize) -> bool
-    requires { k < slots_most }
-    ensures { result ≡ is_marked b k }
+pub fn is_marked(b: u8, k: SlotIndex) -> bool
+    ensures { result ≡ is_marked b k.at }
 {
-    b / power_of(k) % 2 == 1
+    b >> k.at & 1 == 1
 }
 
-// The octet with slot k's mark.
-pub fn with_mark(b: u8, k: usize) -> u8
-    requires { k < slots_most }
-    ensures { is_marked result ≡ on k true (is_marked b) }
+// The octet with slot k's mark. Not one function with `without_mark`: a flag would choose between the two operators, and each caller wants one.
+pub fn with_mark(b: u8, k: SlotIndex) -> u8
+    ensures { is_marked result ≡ on k.at true (is_marked b) }
 {
-    if is_marked(b, k) {
-        return b;
-    }
-    b + power_of(k)
+    b | power_of(k)
 }
 
 // The octet without slot k's mark.
-fn without_mark(b: u8, k: usize) -> u8
-    requires { k < slots_most }
-    ensures { is_marked result ≡ on k false (is_marked b) }
+fn without_mark(b: u8, k: SlotIndex) -> u8
+    ensures { is_marked result ≡ on k.at false (is_marked b) }
 {
-    if is_marked(b, k) {
-        return b - power_of(k);
-    }
-    b
+    b & !power_of(k)
 }
 
 // The marks of a change stored from slot k: the other live slots, if hops remain.
-pub fn spread_of(live: u8, k: usize, remaining: u16) -> u8
-    requires { k < slots_most }
-    ensures { is_marked result ≡ rules.spread (is_marked live) k remaining }
+pub fn spread_of(live: u8, k: SlotIndex, remaining: u16) -> u8
+    ensures { is_marked result ≡ rules.spread (is_marked live) k.at remaining }
 {
     if remaining == 0 {
         return 0;
@@ -73,70 +53,56 @@ pub fn spread_of(live: u8, k: usize, remaining: u16) -> u8
 
 // ---- the marks of rows
 // Whether row i waits for slot k.
-pub fn waits(memory: &[u8], i: usize, k: usize) -> bool
-    requires { (length memory.now ≡ memory_size) × ((i < rows_most) × (k < slots_most)) }
-    ensures { result ≡ waits_for k (row_at (rows_in memory.now) i) }
+pub fn waits(memory: &Storage, i: RowIndex, k: SlotIndex) -> bool
+    ensures { result ≡ waits_for k.at (row_at (rows_in memory.now) i.at) }
 {
-    if memory[LENGTHS_AT + i] == 0 {
-        return false;
-    }
-    is_marked(memory[MARKS_AT + i], k)
+    memory[LENGTHS_AT + i.at] != 0 && is_marked(memory[MARKS_AT + i.at], k)
 }
 
 fn if_used(length: u8, marks: u8) -> u8
     ensures { result ≡ pick (length == 0) 0 marks }
 {
-    if length == 0 {
-        return 0;
-    }
-    marks
+    if length == 0 { 0 } else { marks }
 }
 
 // The slots that some row waits for: without a way out, so that the compiler takes 16 rows at a time.
-pub fn any_marks(memory: &[u8]) -> u8
-    requires { length memory.now ≡ memory_size }
+pub fn any_marks(memory: &Storage) -> u8
     ensures { AnyMarks (rows_in memory.now) result }
 {
     let mut all: u8 = 0;
-    let mut i: usize = 0;
-    while i < ROWS {
-        all = all | if_used(memory[LENGTHS_AT + i], memory[MARKS_AT + i]);
-        i += 1;
+    for i in 0..ROWS {
+        all |= if_used(memory[LENGTHS_AT + i], memory[MARKS_AT + i]);
     }
     all
 }
 
 // Row i has these marks.
-fn put_marks(memory: &mut [u8], i: usize, marks: u8)
-    requires { (length memory.old ≡ memory_size) × (i < rows_most) }
-    ensures { memory_of memory.new ≡ changed_at (with_marks (is_marked marks)) i memory.old }
+fn put_marks(memory: &mut Storage, i: RowIndex, marks: u8)
+    ensures { memory_of memory.new ≡ changed_at (with_marks (is_marked marks)) i.at memory.old }
 {
-    memory[MARKS_AT + i] = marks;
+    memory[MARKS_AT + i.at] = marks;
 }
 
-// Row i waits for slot k.
-fn set_mark(memory: &mut [u8], i: usize, k: usize)
-    requires { (length memory.old ≡ memory_size) × ((i < rows_most) × (k < slots_most)) }
-    ensures { memory_of memory.new ≡ changed_at (marked k) i memory.old }
+// Row i waits for slot k. As with the octets, a flag for this and `clear_mark` would be no plainer.
+fn set_mark(memory: &mut Storage, i: RowIndex, k: SlotIndex)
+    ensures { memory_of memory.new ≡ changed_at (marked k.at) i.at memory.old }
 {
-    let b = with_mark(memory[MARKS_AT + i], k);
+    let b = with_mark(memory[MARKS_AT + i.at], k);
     put_marks(memory, i, b)
 }
 
 // Row i does not wait for slot k.
-pub fn clear_mark(memory: &mut [u8], i: usize, k: usize)
-    requires { (length memory.old ≡ memory_size) × ((i < rows_most) × (k < slots_most)) }
-    ensures { memory_of memory.new ≡ changed_at (rules.unmarked k) i memory.old }
+pub fn clear_mark(memory: &mut Storage, i: RowIndex, k: SlotIndex)
+    ensures { memory_of memory.new ≡ changed_at (rules.unmarked k.at) i.at memory.old }
 {
-    let b = without_mark(memory[MARKS_AT + i], k);
+    let b = without_mark(memory[MARKS_AT + i.at], k);
     put_marks(memory, i, b)
 }
 
 // An older record of row i's entry was received from slot k: the row waits for it again, if hops remain.
-pub fn mark_again(memory: &mut [u8], i: usize, k: usize)
-    requires { (length memory.old ≡ memory_size) × ((i < rows_most) × (k < slots_most)) }
-    ensures memory_after { memory_of memory.new ≡ changed_at (waits_again k) i memory.old }
-    ensures kept { (value_at memory.old i).remaining ≡ 0 → memory.new ≡ memory.old }
+pub fn mark_again(memory: &mut Storage, i: RowIndex, k: SlotIndex)
+    ensures memory_after { memory_of memory.new ≡ changed_at (waits_again k.at) i.at memory.old }
+    ensures kept { (value_at memory.old i.at).remaining ≡ 0 → memory.new ≡ memory.old }
 {
     if rows::remaining_of(memory, i) == 0 {
         return;
@@ -145,27 +111,20 @@ pub fn mark_again(memory: &mut [u8], i: usize, k: usize)
 }
 
 // A reply was received from slot k with a number of row i's entry: with the number held, the row waits for it no more.
-pub fn reply_mark(memory: &mut [u8], i: usize, k: usize, number: CsaNumber)
-    requires { (length memory.old ≡ memory_size) × ((i < rows_most) × (k < slots_most)) }
-    ensures memory_after { memory_of memory.new ≡ changed_at (replied k number) i memory.old }
-    ensures kept { (definition.newer number (value_at memory.old i).number
-        || definition.newer (value_at memory.old i).number number) ≡ true → memory.new ≡ memory.old }
+pub fn reply_mark(memory: &mut Storage, i: RowIndex, k: SlotIndex, number: CsaNumber)
+    ensures memory_after { memory_of memory.new ≡ changed_at (replied k.at number) i.at memory.old }
+    ensures kept { (definition.newer number (value_at memory.old i.at).number
+        || definition.newer (value_at memory.old i.at).number number) ≡ true → memory.new ≡ memory.old }
 {
-    let held = rows::number_of(memory, i);
-    if numbers::newer(number, held) {
-        return;
+    if number == rows::number_of(memory, i) {
+        clear_mark(memory, i, k)
     }
-    if numbers::newer(held, number) {
-        return;
-    }
-    clear_mark(memory, i, k)
 }
 
 // A number of row i's entry was asked for by slot k: what is sent for it waits, if hops remain. A greater number is not held, and none is sent.
-pub fn answer_mark(memory: &mut [u8], i: usize, k: usize, number: CsaNumber)
-    requires { (length memory.old ≡ memory_size) × ((i < rows_most) × (k < slots_most)) }
-    ensures memory_after { memory_of memory.new ≡ changed_at (answer_waits k number) i memory.old }
-    ensures kept { definition.newer number (value_at memory.old i).number ≡ true → memory.new ≡ memory.old }
+pub fn answer_mark(memory: &mut Storage, i: RowIndex, k: SlotIndex, number: CsaNumber)
+    ensures memory_after { memory_of memory.new ≡ changed_at (answer_waits k.at number) i.at memory.old }
+    ensures kept { definition.newer number (value_at memory.old i.at).number ≡ true → memory.new ≡ memory.old }
 {
     if numbers::newer(number, rows::number_of(memory, i)) {
         return;
@@ -174,14 +133,11 @@ pub fn answer_mark(memory: &mut [u8], i: usize, k: usize, number: CsaNumber)
 }
 
 // No row waits for slot k.
-pub fn clear_slot(memory: &mut [u8], k: usize)
-    requires { (length memory.old ≡ memory_size) × (k < slots_most) }
-    ensures { memory_of memory.new ≡ with_rows (map (rules.unmarked k) (rows_in memory.old))
+pub fn clear_slot(memory: &mut Storage, k: SlotIndex)
+    ensures { memory_of memory.new ≡ with_rows (map (rules.unmarked k.at) (rows_in memory.old))
         (memory_of memory.old) }
 {
-    let mut i: usize = 0;
-    while i < ROWS {
-        clear_mark(memory, i, k);
-        i += 1;
+    for at in 0..ROWS {
+        clear_mark(memory, Index { at }, k);
     }
 }

@@ -1,98 +1,101 @@
 // The next rows to send: the used ones in row order, and those that wait for a slot, going round.
-ghost use Rattle.std.specs.Prelude.{◌≡◌, ◌<◌, ◌≤◌, length};
-ghost use Rattle.rules.specs.Server.{slots_most};
+ghost use Rattle.std.specs.Prelude.{◌≡◌, ◌≤◌, length, drop, not, ◌==◌};
+ghost use Rattle.std.specs.List.{list_any};
 ghost use Rattle.rules.specs.Rows.{next_used, used_from, next_waiting};
-ghost use Rattle.memory.specs.Layout.{memory_size};
 ghost use Rattle.memory.specs.Memory.{rows_in};
-ghost use Rattle.memory.specs.Marks.{Picked};
 
 use crate::layout::ROWS;
-use crate::{marks, rows};
+use crate::{Storage, marks, rows};
+use protocol::{Index, SlotIndex};
 
-// At most four rows, of which count are meant; next is the place behind the last of them, or where the search began.
+// At most four rows, of which count are meant; next is the place behind the last of them, or where the search began. An array and a count:
+// there is no heap.
 #[derive(Clone, Copy)]
 pub struct Picks {
     pub count: usize,
     pub rows: [usize; 4],
     pub next: usize,
+    pub ghost most: { count ≤ 4 },
 }
 
-// The next four used rows from row from on, or all that are left.
-pub fn next_used(memory: &[u8], from: usize) -> Picks
-    requires { length memory.now ≡ memory_size }
-    ensures { Picked from (next_used (rows_in memory.now) from) result }
+// Whether a length from this place on is not 0.
+fn some_after(lengths: &[u8], from: usize) -> bool
+    ensures { result ≡ list_any (λ x. not (x == 0)) (drop from lengths.now) }
 {
-    let mut rows = [0usize; 4];
-    let mut count: usize = 0;
-    let mut at = from;
-    let mut next = from;
-    while at < ROWS {
-        if count == 4 {
-            return Picks { count, rows, next };
-        }
-        if rows::is_used(memory, at) {
-            rows[count] = at;
-            count += 1;
-            next = at + 1;
-        }
-        at += 1;
-    }
-    Picks { count, rows, next }
+    lengths.iter().skip(from).any(|length| *length != 0)
 }
 
 // Whether a used row follows, row from on.
-pub fn used_from(memory: &[u8], from: usize) -> bool
-    requires { length memory.now ≡ memory_size }
+pub fn used_from(memory: &Storage, from: usize) -> bool
     ensures { result ≡ used_from (rows_in memory.now) from }
 {
-    let mut at = from;
-    while at < ROWS {
-        if rows::is_used(memory, at) {
-            return true;
-        }
-        at += 1;
-    }
-    false
+    some_after(rows::lengths(memory), from)
 }
 
-// The next four rows that wait for slot k, row by row.
-fn waiting_from(memory: &[u8], k: usize, from: usize) -> Picks
-    requires { (length memory.now ≡ memory_size) × ((k < slots_most) × (from ≤ 4294967295)) }
-    ensures { Picked from (next_waiting (rows_in memory.now) k from) result }
-{
-    let mut rows = [0usize; 4];
-    let mut count: usize = 0;
-    let mut place = from;
-    let mut next = from;
-    let mut left: usize = ROWS;
-    while left > 0 {
-        if count == 4 {
-            return Picks { count, rows, next };
-        }
-        if marks::waits(memory, place % ROWS, k) {
-            rows[count] = place;
-            count += 1;
-            next = place + 1;
-        }
-        place += 1;
-        left -= 1;
-    }
-    Picks { count, rows, next }
-}
+impl Picks {
+    ghost use Rattle.memory.specs.Marks.{picks_of, Picked};
 
-// The next four rows that wait for slot k from row from on, going round, or all if fewer. Places are counted on past the last row: the row
-// of a place is its remainder by 64. Whether any row waits is asked of all marks at once first.
-pub fn next_waiting(memory: &[u8], k: usize, from: usize) -> Picks
-    requires { (length memory.now ≡ memory_size) × ((k < slots_most) × (from ≤ 4294967295)) }
-    ensures { Picked from (next_waiting (rows_in memory.now) k from) result }
-{
-    if marks::is_marked(marks::any_marks(memory), k) {
-        return waiting_from(memory, k, from);
+    // The rows that are meant.
+    pub fn places(&self) -> &[usize]
+        ensures { result.now ≡ picks_of self.now }
+    {
+        &self.rows[..self.count]
     }
-    let rows = [0usize; 4];
-    Picks {
-        count: 0,
-        rows,
-        next: from,
+
+    // The next four used rows from row from on, or all that are left.
+    pub fn next_used(memory: &Storage, from: usize) -> Self
+        ensures { Picked from (next_used (rows_in memory.now) from) result }
+    {
+        let mut rows = [0usize; 4];
+        let mut count: usize = 0;
+        let mut next = from;
+        for at in from..ROWS {
+            if count == 4 {
+                return Self { count, rows, next };
+            }
+            if rows::is_used(memory, Index { at }) {
+                rows[count] = at;
+                count += 1;
+                next = at + 1;
+            }
+        }
+        Self { count, rows, next }
+    }
+
+    // The next four rows that wait for slot k, row by row.
+    fn waiting_from(memory: &Storage, k: SlotIndex, from: usize) -> Self
+        requires { from ≤ 4294967295 }
+        ensures { Picked from (next_waiting (rows_in memory.now) k.at from) result }
+    {
+        let mut rows = [0usize; 4];
+        let mut count: usize = 0;
+        let mut next = from;
+        for place in from..from + ROWS {
+            if count == 4 {
+                return Self { count, rows, next };
+            }
+            if marks::waits(memory, Index { at: place % ROWS }, k) {
+                rows[count] = place;
+                count += 1;
+                next = place + 1;
+            }
+        }
+        Self { count, rows, next }
+    }
+
+    // The next four rows that wait for slot k from row from on, going round, or all if fewer. Places are counted on past the last row: the row
+    // of a place is its remainder by 64. Whether any row waits is asked of all marks at once first.
+    pub fn next_waiting(memory: &Storage, k: SlotIndex, from: usize) -> Self
+        requires { from ≤ 4294967295 }
+        ensures { Picked from (next_waiting (rows_in memory.now) k.at from) result }
+    {
+        if marks::is_marked(marks::any_marks(memory), k) {
+            return Self::waiting_from(memory, k, from);
+        }
+        Self {
+            count: 0,
+            rows: [0; 4],
+            next: from,
+        }
     }
 }

@@ -3,27 +3,18 @@ ghost use Rattle.std.specs.Prelude.{◌≡◌, ◌+◌, ◌<◌, ◌≤◌, min,
 ghost use Rattle.laws.specs.Puts.{put_at};
 ghost use Rattle.protocol.specs.Fields.{field2, put2};
 
-// A size over the most counts as the most.
-pub fn at_most(n: usize, most: usize) -> usize
-    ensures { (result ≡ min n most) × (result ≤ most) }
-{
-    if n < most {
-        return n;
-    }
-    most
-}
+use crate::Storage;
 
 // The size at a place.
-pub fn size_at(memory: &[u8], at: usize, most: usize) -> usize
+pub fn size_at(memory: &Storage, at: usize, most: usize) -> usize
     ensures { result ≡ min (field2 memory.now at) most }
 {
-    at_most(octets::field2(memory, at) as usize, most)
+    (octets::field2(memory, at) as usize).min(most)
 }
 
-pub fn put_size(memory: &mut [u8], at: usize, n: usize)
+pub fn put_size(memory: &mut Storage, at: usize, n: usize)
     requires { (n < 65536) × (at + 2 ≤ length memory.old) }
     ensures { memory.new ≡ put_at memory.old at (put2 n []) }
 {
-    let size = [(n / 256) as u8, (n % 256) as u8];
-    octets::put(memory, at, &size);
+    octets::put(memory, at, &(n as u16).to_be_bytes());
 }

@@ -1,6 +1,7 @@
 -- The sum by words of four octets, the low octet first, gives the ones' complement sum.
 -- Assumes nothing.
-use Rattle.std.proofs.Common.{◌≡◌, ℕ, zero, suc, ◌+◌, ◌*◌, ◌<◌, ◌≤◌, true, List, [], ◌∷◌, length, get_or, drop, refl, ◌∙◌, add-zero, arith, length-drop, get_or-drop, drop-drop}
+use Rattle.std.proofs.Common.{◌≡◌, ℕ, zero, suc, ◌+◌, ◌*◌, ◌<◌, ◌≤◌, true, List, [], ◌∷◌, length}
+use Rattle.std.proofs.Common.{get_or, drop, refl, ◌∙◌, add-zero, arith, length-drop, get_or-drop, drop-drop}
 use Rattle.protocol.specs.Checksum.{total, fold, ones_sum}
 use Rattle.protocol.specs.WellFormed.{Octets}
 use Rattle.protocol.proofs.PacketOctets.{Small, none, one, octets_small}

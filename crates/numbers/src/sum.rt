@@ -3,12 +3,7 @@ ghost use Rattle.std.specs.Prelude.{◌≡◌, ◌+◌, ◌*◌, ◌<◌, ◌≤
 ghost use Rattle.protocol.specs.Checksum as definition;
 ghost use Rattle.numbers.specs.Words.{low_first, low_total};
 
-// Four octets as a number, the low one first.
-fn low_first(a: u8, b: u8, c: u8, d: u8) -> u64
-    ensures { (result ≡ low_first a b c d) × (result < 4294967296) }
-{
-    (((d as u64) * 256 + (c as u64)) * 256 + (b as u64)) * 256 + (a as u64)
-}
+use octets::octet;
 
 // The four octets from a place on.
 fn word(p: &[u8], at: usize) -> u64
@@ -16,17 +11,7 @@ fn word(p: &[u8], at: usize) -> u64
     ensures { let s = p.now in
         (result ≡ low_first (slice_index s at) (slice_index s (at + 1)) (slice_index s (at + 2)) (slice_index s (at + 3))) × (result < 4294967296) }
 {
-    low_first(p[at], p[at + 1], p[at + 2], p[at + 3])
-}
-
-// The octet at a place; 0 behind the last one.
-fn octet(p: &[u8], at: usize) -> u8
-    ensures { result ≡ slice_index p.now at }
-{
-    if at < p.len() {
-        return p[at];
-    }
-    0
+    u64::from(u32::from_le_bytes([p[at], p[at + 1], p[at + 2], p[at + 3]]))
 }
 
 // The octets behind the last whole word, fewer than four.
@@ -35,7 +20,7 @@ fn rest(p: &[u8], at: usize) -> u64
     ensures { let s = p.now in
         (result ≡ low_first (slice_index s at) (slice_index s (at + 1)) (slice_index s (at + 2)) 0) × (result < 4294967296) }
 {
-    low_first(octet(p, at), octet(p, at + 1), octet(p, at + 2), 0)
+    u64::from(u32::from_le_bytes([octet(p, at), octet(p, at + 1), octet(p, at + 2), 0]))
 }
 
 // The sum of the words. A loop over whole words with no other way out is vectorised.
@@ -44,13 +29,11 @@ fn total(p: &[u8]) -> u64
     ensures { (result ≡ low_total p.now) × (result ≤ 4294967296 * 16385) }
 {
     let mut sum: u64 = 0;
-    let mut i: usize = 0;
-    let n = p.len() / 4;
-    while i < n {
+    let whole = p.len() / 4;
+    for i in 0..whole {
         sum += word(p, i * 4);
-        i += 1;
     }
-    sum + rest(p, i * 4)
+    sum + rest(p, whole * 4)
 }
 
 fn fold(s: u64) -> u64

@@ -1,32 +1,28 @@
--- Octets compared one by one from the front.
+-- The order of slices compares octets from the front.
 -- Assumes nothing.
-use Prim.Native.Nat.{ℕ, suc, ◌+◌, ◌≤◌, ◌<◌}
-use mathlib.Core.Path.{◌≡◌, refl, ap}
-use mathlib.Core.Bool.{Bool, true, false, ◌&&◌}
-use mathlib.Core.List.{List, [], ◌∷◌}
-use native.Mathlib.Numerals.{add-one}
-use lib.Dec.{eqb}
-use lib.ListN.{length, drop, get_or, drop_of_length-le}
-use lib.Seq.{drop-cons}
-use borrow.Author.Tests.{eq-eqb, ne_eqb}
-use Rattle.laws.specs.Tables.{same}
+use Rattle.std.proofs.Common.{◌≡◌, ◌≢◌, ℕ, Bool, List, [], ◌∷◌, refl, inl, inr, arith, Option, Some, Ordering}
+use Rattle.std.proofs.Common.{eq-eqb, ne_eqb, lt-ltb, le-ltb, eqb, ltb}
+use Rattle.std.specs.Ordering.{is_some_and, is_gt, nat_cmp, as_partial_cmp, partial_ordering_then, partial_gt}
+use Rattle.std.proofs.lemmas.Bool.{cases_lt}
+use Rattle.std.specs.Cmp.Lexicographic.{slice_partial_cmp}
+use Rattle.laws.specs.Choice.{pick}
+use Rattle.laws.specs.Tables.{greater}
 
-and_false : (b : Bool) → (b && false) ≡ false
-and_false true = refl
-and_false false = refl
+-- the first octet of each
+step : (x y : ℕ) (r : Option Ordering) (g : Bool) → is_some_and is_gt r ≡ g
+    → is_some_and is_gt (partial_ordering_then (Some (nat_cmp x y)) r) ≡ pick (eqb x y) g (ltb y x)
+step x y r g e =
+    elim (cases_lt x y) [
+      | inl h ↦ let n : x ≢ y = omega arith in rw (lt-ltb x y h, ne_eqb x y n, le-ltb y x (omega arith)) refl
+      | inr h ↦ elim (cases_lt y x) [
+        | inl k ↦ let n : x ≢ y = omega arith in rw (le-ltb x y h, ne_eqb x y n, lt-ltb y x k) refl
+        | inr k ↦ let q : x ≡ y = omega arith in rw (le-ltb x y h, eq-eqb x y q) e
+      ]
+    ]
 
-pub same_length : (a b : List ℕ) → (length a ≡ length b → ⊥) → same a b ≡ false
-same_length [] [] h = absurd (h refl)
-same_length [] (y ∷ b) h = refl
-same_length (x ∷ a) [] h = refl
-same_length (x ∷ a) (y ∷ b) h = rw (same_length a b (λ e. h (ap suc e))) (and_false (eqb x y))
-
-module _ (a b : List ℕ) (i : ℕ) where
-  pub same_hit : i < length a → i < length b → get_or a i 0 ≡ get_or b i 0 → same (drop i a) (drop i b) ≡ same (drop (i + 1) a) (drop (i + 1) b)
-  same_hit h k e = rw (add-one, drop-cons a i 0 h, drop-cons b i 0 k, eq-eqb (get_or a i 0) (get_or b i 0) e)
-
-  pub same_miss : i < length a → i < length b → (get_or a i 0 ≡ get_or b i 0 → ⊥) → same (drop i a) (drop i b) ≡ false
-  same_miss h k e = rw (drop-cons a i 0 h, drop-cons b i 0 k, ne_eqb (get_or a i 0) (get_or b i 0) e)
-
-  pub same_end : length a ≤ i → length b ≤ i → same (drop i a) (drop i b) ≡ true
-  same_end h k = rw (drop_of_length-le a h, drop_of_length-le b k)
+pub greater_by_order : (a b : List ℕ) → partial_gt (slice_partial_cmp (as_partial_cmp nat_cmp)) a b ≡ greater a b
+greater_by_order [] [] = refl
+greater_by_order [] (y ∷ b) = refl
+greater_by_order (x ∷ a) [] = refl
+greater_by_order (x ∷ a) (y ∷ b) =
+    step x y (slice_partial_cmp (as_partial_cmp nat_cmp) a b) (greater a b) (greater_by_order a b)

@@ -12,53 +12,33 @@ ghost use Rattle.protocol.specs.WellFormed.{Octets};
 // Each element of a slice of octets is below 256. It does nothing: a caller whose contract says so calls it for that fact.
 pub fn bounded(p: &[u8])
     ensures { Octets p.now }
-{
-    if 0 < p.len() {
-        let _first = p[0];
-    }
-}
+{}
 
 pub fn octet(p: &[u8], at: usize) -> u8
     ensures { result ≡ fields.octet p.now at }
 {
-    if at < p.len() {
-        return p[at];
-    }
-    0
+    p.get(at).copied().unwrap_or(0)
 }
 
 // What stands from a position on.
 pub fn tail(p: &[u8], at: usize) -> &[u8]
     ensures { result.now ≡ drop at p.now }
 {
-    if at < p.len() {
-        return &p[at..];
-    }
-    &p[..0]
+    &p[at.min(p.len())..]
 }
 
 // The first n octets, or all.
 pub fn first(p: &[u8], n: usize) -> &[u8]
     ensures { result.now ≡ take n p.now }
 {
-    if n < p.len() {
-        return &p[..n];
-    }
-    p
+    &p[..n.min(p.len())]
 }
 
 // The n octets from a position on, or those that there are.
 pub fn part_of(p: &[u8], at: usize, n: usize) -> &[u8]
     ensures { result.now ≡ part p.now at n }
 {
-    if p.len() <= at {
-        return &p[..0];
-    }
-    if p.len() - at < n {
-        return &p[at..];
-    }
-    let to = at + n;
-    &p[at..to]
+    first(tail(p, at), n)
 }
 
 // Four octets, by value.
@@ -66,43 +46,29 @@ pub fn array4(p: &[u8]) -> [u8; 4]
     requires { length p.now ≡ 4 }
     ensures { result ≡ p.now }
 {
-    let mut a = [0u8; 4];
-    a.copy_from_slice(p);
-    a
+    p.try_into().unwrap()
 }
 
 pub fn field2(p: &[u8], at: usize) -> u16
     ensures { result ≡ fields.field2 p.now at }
 {
-    if p.len() <= at {
-        return 0;
+    match p.get(at..) {
+        Some([a, b, ..]) => u16::from_be_bytes([*a, *b]),
+        Some([a]) => u16::from_be_bytes([*a, 0]),
+        _ => 0,
     }
-    if p.len() - at < 2 {
-        return (p[at] as u16) * 256;
-    }
-    (p[at] as u16) * 256 + (p[at + 1] as u16)
-}
-
-// A field that is not all there.
-fn short_field4(p: &[u8], at: usize) -> u32
-    ensures { result ≡ fields.field4 p.now at }
-{
-    let s = tail(p, at);
-    (((octet(s, 0) as u32) * 256 + (octet(s, 1) as u32)) * 256 + (octet(s, 2) as u32)) * 256
-        + (octet(s, 3) as u32)
 }
 
 pub fn field4(p: &[u8], at: usize) -> u32
     ensures { result ≡ fields.field4 p.now at }
 {
-    if p.len() <= at {
-        return 0;
+    match p.get(at..) {
+        Some([a, b, c, d, ..]) => u32::from_be_bytes([*a, *b, *c, *d]),
+        Some([a, b, c]) => u32::from_be_bytes([*a, *b, *c, 0]),
+        Some([a, b]) => u32::from_be_bytes([*a, *b, 0, 0]),
+        Some([a]) => u32::from_be_bytes([*a, 0, 0, 0]),
+        _ => 0,
     }
-    if p.len() - at < 4 {
-        return short_field4(p, at);
-    }
-    (((p[at] as u32) * 256 + (p[at + 1] as u32)) * 256 + (p[at + 2] as u32)) * 256
-        + (p[at + 3] as u32)
 }
 
 // src at a position of out: the next position. Below the writers: asks for the room.
@@ -119,32 +85,12 @@ pub fn put(out: &mut [u8], at: usize, src: &[u8]) -> usize
 pub fn greater(a: &[u8], b: &[u8]) -> bool
     ensures { result ≡ tables.greater a.now b.now }
 {
-    let mut i: usize = 0;
-    while i < a.len() {
-        if b.len() <= i {
-            return true;
-        }
-        if a[i] != b[i] {
-            return b[i] < a[i];
-        }
-        i += 1;
-    }
-    false
+    a > b
 }
 
 // Whether two parts hold the same octets, compared where they lie.
 pub fn same(a: &[u8], b: &[u8]) -> bool
     ensures { result ≡ tables.same a.now b.now }
 {
-    if a.len() != b.len() {
-        return false;
-    }
-    let mut i = 0;
-    while i < a.len() {
-        if a[i] != b[i] {
-            return false;
-        }
-        i += 1;
-    }
-    true
+    a == b
 }

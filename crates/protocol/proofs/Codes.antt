@@ -8,8 +8,9 @@ use mathlib.Core.Logic.{◌↔◌, ◌⊎◌, inl, inr}
 use lib.Dec.{eqb}
 use Rattle.laws.specs.Choice.{pick}
 use Rattle.protocol.specs.declared.Kind.{Kind}
-use Rattle.protocol.specs.declared.Checked.{Checked}
-use Rattle.protocol.specs.declared.Checked.TheVariants.{Fine, Breaks}
+use Rattle.std.specs.Prelude.{Ok, Err}
+use Rattle.protocol.specs.Checks.{Checked}
+use Rattle.protocol.specs.Checks.{Fine, Breaks}
 use Rattle.protocol.specs.Fields.{octet}
 use Rattle.protocol.specs.Checksum.{good_sum}
 use Rattle.protocol.specs.Messages.{Message}
@@ -19,8 +20,8 @@ use Rattle.protocol.specs.Reading.{kind_of, message_at, malformed, message, by_c
 
 -- ---- over five tests and a check
 abbrev check_code : Checked → ℕ
-check_code Fine = 0
-check_code (Breaks at) = 10
+check_code (Ok _) = 0
+check_code (Err at) = 10
 
 abbrev code_by : Bool → Bool → Bool → Bool → Bool → Checked → ℕ
 code_by l v t s x c = pick l (pick v (pick t (pick s (pick x (check_code c) 9) 8) 7) 6) 5
@@ -49,8 +50,8 @@ case_of true false t s x c = (refl, refl)
 case_of true true false s x c = (refl, refl, refl)
 case_of true true true false x c = (refl, refl, refl, refl)
 case_of true true true true false c = (refl, refl, refl, refl, refl)
-case_of true true true true true Fine = ((refl, refl, refl, refl, refl), refl)
-case_of true true true true true (Breaks at) = ((refl, refl, refl, refl, refl), (at, refl))
+case_of true true true true true (Ok _) = ((refl, refl, refl, refl, refl), refl)
+case_of true true true true true (Err at) = ((refl, refl, refl, refl, refl), (at, refl))
 
 abbrev pub AnyCode : ℕ → Type 0
 AnyCode n = (n ≡ 0) ⊎ ((n ≡ 5) ⊎ ((n ≡ 6) ⊎ ((n ≡ 7) ⊎ ((n ≡ 8) ⊎ ((n ≡ 9) ⊎ (n ≡ 10))))))
@@ -61,8 +62,8 @@ any_code true false t s x c = inr (inr (inl refl))
 any_code true true false s x c = inr (inr (inr (inl refl)))
 any_code true true true false x c = inr (inr (inr (inr (inl refl))))
 any_code true true true true false c = inr (inr (inr (inr (inr (inl refl)))))
-any_code true true true true true Fine = inl refl
-any_code true true true true true (Breaks at) = inr (inr (inr (inr (inr (inr refl)))))
+any_code true true true true true (Ok _) = inl refl
+any_code true true true true true (Err at) = inr (inr (inr (inr (inr (inr refl)))))
 
 code_by_lem : (w : ℕ) (k : Kind) (p : List ℕ) (l v t s x : Bool) (c : Checked) → mandatory_check w k p ≡ c
     → refusal_of (by_code (first_code (refuse (not l) 5 ∷ refuse (not v) 6 ∷ refuse (not t) 7 ∷ refuse (not s) 8 ∷ refuse (not x) 9 ∷ [])) w k p)
@@ -72,8 +73,8 @@ code_by_lem w k p true false t s x c e = refl
 code_by_lem w k p true true false s x c e = refl
 code_by_lem w k p true true true false x c e = refl
 code_by_lem w k p true true true true false c e = refl
-code_by_lem w k p true true true true true Fine e = rw e
-code_by_lem w k p true true true true true (Breaks at) e = rw e
+code_by_lem w k p true true true true true (Ok _) e = rw e
+code_by_lem w k p true true true true true (Err at) e = rw e
 
 -- ---- over a packet
 -- the fixed part is good
@@ -126,8 +127,8 @@ module _ (w : ℕ) (p : List ℕ) where
   unfolding read_packet
   position at e = by_code_lem (fixed_code w p) e where
     by_check_lem : (c : Checked) → by_check c w (kind_of (octet p 1)) p ≡ malformed at → c ≡ Breaks at
-    by_check_lem Fine h = cc
-    by_check_lem (Breaks b) h = cc
+    by_check_lem (Ok _) h = cc
+    by_check_lem (Err b) h = cc
 
     by_code_lem : (n : ℕ) → by_code n w (kind_of (octet p 1)) p ≡ malformed at → check ≡ Breaks at
     by_code_lem zero h = by_check_lem check h
@@ -142,8 +143,8 @@ module _ (w : ℕ) (p : List ℕ) where
       (g.0, g.1, by_code_lem (fixed_code w p) e)
     where
       by_check_lem : (c : Checked) → by_check c w (kind_of (octet p 1)) p ≡ message m → message_at w (kind_of (octet p 1)) p ≡ m
-      by_check_lem Fine h = cc
-      by_check_lem (Breaks b) h = cc
+      by_check_lem (Ok _) h = cc
+      by_check_lem (Err b) h = cc
 
       by_code_lem : (n : ℕ) → by_code n w (kind_of (octet p 1)) p ≡ message m → message_at w (kind_of (octet p 1)) p ≡ m
       by_code_lem zero h = by_check_lem check h

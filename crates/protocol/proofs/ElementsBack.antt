@@ -12,7 +12,7 @@ use Rattle.laws.specs.Lists.{All}
 use Rattle.laws.proofs.Lists.{octet_in_lem, drop_in, room_in, part_in, behind, room_behind}
 use Rattle.protocol.specs.declared.Kind.{Kind}
 use Rattle.protocol.specs.declared.Kind.TheVariants.{Hello}
-use Rattle.protocol.specs.declared.Checked.TheVariants.{Fine}
+use Rattle.protocol.specs.Checks.{Fine}
 use Rattle.protocol.specs.Fields.{octet, field2}
 use Rattle.protocol.specs.Messages.{CsaRecord}
 use Rattle.protocol.specs.Layouts.{records_octets, receivers_octets}

@@ -14,7 +14,7 @@ use Rattle.laws.proofs.Lists.{peel1, peel_part, part_length}
 use Rattle.laws.proofs.Bools.{and_true}
 use Rattle.protocol.specs.declared.Kind.{Kind}
 use Rattle.protocol.specs.declared.Kind.TheVariants.{Ca, CsuRequest, CsuReply, Csus, Hello}
-use Rattle.protocol.specs.declared.Checked.TheVariants.{Fine}
+use Rattle.protocol.specs.Checks.{Fine}
 use Rattle.protocol.specs.Sizes.{fixed_size, packet_most, common_size}
 use Rattle.protocol.specs.Fields.{octet, field2, field4, put2, put4}
 use Rattle.protocol.specs.Checksum.{good_sum}

@@ -14,7 +14,7 @@ use Rattle.laws.proofs.Lists.{octet_in_lem, drop_in, room_in, part_in, behind, r
 use Rattle.protocol.specs.declared.Kind.{Kind}
 use Rattle.protocol.specs.declared.Kind.TheVariants.{Ca, CsuRequest, CsuReply, Csus, Hello}
 use Rattle.protocol.specs.declared.CaFlags.{CaFlags}
-use Rattle.protocol.specs.declared.Checked.TheVariants.{Fine}
+use Rattle.protocol.specs.Checks.{Fine}
 use Rattle.protocol.specs.Sizes.{common_size}
 use Rattle.protocol.specs.Fields.{octet, field2}
 use Rattle.protocol.specs.Numbers as numbers

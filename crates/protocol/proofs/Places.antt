@@ -9,8 +9,8 @@ use lib.ListN.{length, get_or, drop}
 use lib.Dec.{leb}
 use borrow.Author.Tests.{le-leb, lt-leb}
 use Rattle.laws.proofs.Lists.{octet_in_lem}
-use Rattle.protocol.specs.declared.Checked.{Checked}
-use Rattle.protocol.specs.declared.Checked.TheVariants.{Fine}
+use Rattle.protocol.specs.Checks.{Checked}
+use Rattle.protocol.specs.Checks.{Fine}
 use Rattle.protocol.specs.Fields.{field2, field4}
 use Rattle.protocol.specs.Layouts.{bit}
 use Rattle.protocol.specs.Checks.{field, first_break}

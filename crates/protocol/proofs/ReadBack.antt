@@ -12,7 +12,7 @@ use Rattle.laws.proofs.Lists.{behind, room_behind}
 use Rattle.laws.proofs.Bools.{both_true}
 use Rattle.protocol.specs.declared.Kind.{Kind}
 use Rattle.protocol.specs.declared.Kind.TheVariants.{Ca, CsuRequest, CsuReply, Csus, Hello}
-use Rattle.protocol.specs.declared.Checked.TheVariants.{Fine}
+use Rattle.protocol.specs.Checks.{Fine}
 use Rattle.protocol.specs.Sizes.{packet_most}
 use Rattle.protocol.specs.Fields.{octet, field2}
 use Rattle.protocol.specs.Checksum.{good_sum}

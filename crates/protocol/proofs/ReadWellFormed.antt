@@ -15,7 +15,7 @@ use Rattle.laws.proofs.Integers.{to_z_any}
 use Rattle.protocol.specs.declared.CsaNumber.{CsaNumber}
 use Rattle.protocol.specs.declared.Kind.{Kind}
 use Rattle.protocol.specs.declared.Kind.TheVariants.{Ca, CsuRequest, CsuReply, Csus, Hello}
-use Rattle.protocol.specs.declared.Checked.TheVariants.{Fine}
+use Rattle.protocol.specs.Checks.{Fine}
 use Rattle.protocol.specs.Sizes.{record_size, common_size, records_most}
 use Rattle.protocol.specs.Fields.{octet, field4}
 use Rattle.protocol.specs.Numbers as numbers

@@ -15,7 +15,7 @@ use Rattle.laws.specs.Lists.{part}
 use Rattle.laws.proofs.Lists.{octet_in_lem, drop_in, room_in, part_in, behind, room_behind}
 use Rattle.protocol.specs.declared.Kind.{Kind}
 use Rattle.protocol.specs.declared.CsaNumber.{CsaNumber}
-use Rattle.protocol.specs.declared.Checked.TheVariants.{Fine}
+use Rattle.protocol.specs.Checks.{Fine}
 use Rattle.protocol.specs.Sizes.{key_most, payload_most, record_size}
 use Rattle.protocol.specs.Fields.{octet, field2, field4}
 use Rattle.protocol.specs.Numbers.{csa_number, csa_of, bits_of}

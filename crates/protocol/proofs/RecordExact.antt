@@ -15,7 +15,7 @@ use Rattle.laws.specs.Lists.{part}
 use Rattle.laws.proofs.Lists.{peel1, peel_part, part_length}
 use Rattle.protocol.specs.declared.Kind.{Kind}
 use Rattle.protocol.specs.declared.Kind.TheVariants.{Hello}
-use Rattle.protocol.specs.declared.Checked.TheVariants.{Fine}
+use Rattle.protocol.specs.Checks.{Fine}
 use Rattle.protocol.specs.Sizes.{record_size}
 use Rattle.protocol.specs.Fields.{octet, field2, field4, put2, put4}
 use Rattle.protocol.specs.Numbers as numbers

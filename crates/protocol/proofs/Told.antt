@@ -13,8 +13,9 @@ use Rattle.laws.specs.Lists.{All}
 use Rattle.laws.proofs.Bools.{and_true, one_true}
 use Rattle.protocol.specs.declared.Kind.{Kind}
 use Rattle.protocol.specs.declared.Kind.TheVariants.{Ca, CsuRequest, CsuReply, Csus, Hello}
-use Rattle.protocol.specs.declared.Checked.{Checked}
-use Rattle.protocol.specs.declared.Checked.TheVariants.{Fine, Breaks}
+use Rattle.std.specs.Prelude.{Ok, Err}
+use Rattle.protocol.specs.Checks.{Checked}
+use Rattle.protocol.specs.Checks.{Fine, Breaks}
 use Rattle.protocol.specs.Sizes.{key_most, payload_most}
 use Rattle.protocol.specs.Fields.{octet, field2, field4}
 use Rattle.protocol.specs.Checks.{rule, field, and_then, first_break, is_request_kind, is_hello_kind, common_at, before_checks, receiver_length_good}
@@ -26,8 +27,8 @@ use Rattle.protocol.specs.Reading.{record_at, records_at}
 
 -- ---- checks
 pub both_fine : (c d : Checked) → and_then c d ≡ Fine → (c ≡ Fine) × (d ≡ Fine)
-both_fine Fine d h = (refl, h)
-both_fine (Breaks at) d h = ((cc), (cc))
+both_fine (Ok _) d h = (refl, h)
+both_fine (Err at) d h = ((cc), (cc))
 
 pub rule_true : (b : Bool) (at : ℕ) → rule b at ≡ Fine → b ≡ true
 rule_true true at h = refl
@@ -218,8 +219,8 @@ pub record Told (w : ℕ) (k : Kind) (p : List ℕ) : Type 0 where
 
 after_head_lem : (c : Checked) (w : ℕ) (k : Kind) (p : List ℕ) → after_head c w k p ≡ Fine
     → (c ≡ Fine) × (elements_check w k p (count_at k p) (elements_at w k p) ≡ Fine)
-after_head_lem Fine w k p h = (refl, h)
-after_head_lem (Breaks at) w k p h = ((cc), (cc))
+after_head_lem (Ok _) w k p h = (refl, h)
+after_head_lem (Err at) w k p h = ((cc), (cc))
 
 pub told : (w : ℕ) (k : Kind) (p : List ℕ) → mandatory_check w k p ≡ Fine → Told w k p
 unfolding mandatory_check head_check

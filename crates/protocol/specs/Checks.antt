@@ -4,10 +4,19 @@
 use Rattle.std.specs.Prelude.{ℕ, zero, suc, ◌+◌, ◌-◌, Bool, true, false, not, ◌&&◌, ◌||◌, List, [], ◌∷◌, ◌++◌, length, eqb, leb, ltb}
 use Rattle.protocol.specs.declared.Kind.{Kind}
 use Rattle.protocol.specs.declared.Kind.TheVariants.{Ca, CsuRequest, CsuReply, Csus, Hello}
-use Rattle.protocol.specs.declared.Checked.{Checked}
-use Rattle.protocol.specs.declared.Checked.TheVariants.{Fine, Breaks}
+use Rattle.std.specs.Prelude.{Result, Ok, Err}
 use Rattle.protocol.specs.Sizes.{key_most, payload_most, records_most, receivers_most, fixed_size, common_size, record_size}
 use Rattle.protocol.specs.Fields.{octet, field2, field4}
+
+-- whether fields obey the rules, or the position of the first that does not
+abbrev pub Checked : Type 0
+Checked = Result (Unit {0}) ℕ
+
+abbrev pub Fine : Checked
+Fine = Ok tt
+
+abbrev pub Breaks : ℕ → Checked
+Breaks at = Err at
 
 -- a rule on what stands at a position
 abbrev pub rule : Bool → ℕ → Checked
@@ -19,8 +28,8 @@ abbrev pub field : List ℕ → ℕ → ℕ → Bool → Checked
 field p at n good = rule (leb (at + n) (length p) && good) at
 
 abbrev pub and_then : Checked → Checked → Checked
-and_then Fine d = d
-and_then (Breaks at) d = Breaks at
+and_then (Ok _) d = d
+and_then (Err at) d = Breaks at
 
 -- the first of some checks that breaks
 abbrev pub first_break : List Checked → Checked
@@ -179,8 +188,8 @@ elements_at w k p = common_at k + common_size + w + octet p (common_at k + 9)
 
 -- behind a head that is fine
 abbrev pub after_head : Checked → ℕ → Kind → List ℕ → Checked
-after_head Fine w k p = elements_check w k p (count_at k p) (elements_at w k p)
-after_head (Breaks at) w k p = Breaks at
+after_head (Ok _) w k p = elements_check w k p (count_at k p) (elements_at w k p)
+after_head (Err at) w k p = Breaks at
 
 unfoldable pub mandatory_check : ℕ → Kind → List ℕ → Checked
 mandatory_check w k p = after_head (head_check w k p) w k p

@@ -7,8 +7,8 @@ use Rattle.std.proofs.Common.{to_z, of_z}
 use Rattle.laws.specs.Choice.{pick}
 use Rattle.protocol.specs.declared.CaNumber.{CaNumber}
 use Rattle.protocol.specs.declared.CsaNumber.{CsaNumber}
-use Rattle.protocol.specs.declared.Step.{Step}
-use Rattle.protocol.specs.declared.Step.TheVariants.{Number, Spent}
+use Rattle.std.specs.Prelude.{Option}
+use Rattle.std.specs.Prelude.{Some, None}
 
 abbrev pub ca_number : ℕ → CaNumber
 ca_number n = record { 0 = n }
@@ -52,5 +52,5 @@ abbrev pub spent : CsaNumber → Bool
 spent n = le_z (pos 2147483646) n.0
 
 -- 'each change adds one', unless the number is spent
-abbrev pub next_csa : CsaNumber → Step
-next_csa n = pick (spent n) Spent (Number (csa_number (n.0 +ℤ pos 1)))
+abbrev pub next_csa : CsaNumber → Option CsaNumber
+next_csa n = pick (spent n) None (Some (csa_number (n.0 +ℤ pos 1)))

@@ -5,8 +5,9 @@ use Rattle.laws.specs.Choice.{pick}
 use Rattle.laws.specs.Lists.{part}
 use Rattle.protocol.specs.declared.Kind.{Kind}
 use Rattle.protocol.specs.declared.Kind.TheVariants.{Ca, CsuRequest, CsuReply, Csus, Hello}
-use Rattle.protocol.specs.declared.Checked.{Checked}
-use Rattle.protocol.specs.declared.Checked.TheVariants.{Fine, Breaks}
+use Rattle.std.specs.Prelude.{Ok, Err}
+use Rattle.protocol.specs.Checks.{Checked}
+use Rattle.protocol.specs.Checks.{Fine, Breaks}
 use Rattle.protocol.specs.declared.CaFlags.{CaFlags}
 use Rattle.protocol.specs.Sizes.{common_size, record_size}
 use Rattle.protocol.specs.Fields.{octet, field2, field4}
@@ -68,8 +69,8 @@ pub data Reading : Type 0 where
   message : Message → Reading
 
 abbrev pub by_check : Checked → ℕ → Kind → List ℕ → Reading
-by_check Fine w k p = message (message_at w k p)
-by_check (Breaks at) w k p = malformed at
+by_check (Ok _) w k p = message (message_at w k p)
+by_check (Err at) w k p = malformed at
 
 abbrev pub by_code : ℕ → ℕ → Kind → List ℕ → Reading
 by_code zero w k p = by_check (mandatory_check w k p) w k p

@@ -1,16 +1,42 @@
 // The types that code and definitions share. Their meaning is in specs/.
 #![tactic(auto)]
 
+ghost use Rattle.std.specs.Prelude.{◌≡◌, ◌<◌, ◌≤◌, true, is_some, IfSome};
+
+// An index below N: of a peer slot, of a row, of a request in its list.
+#[derive(Clone, Copy, PartialEq, Eq)]
+pub struct Index<const N: usize> {
+    pub at: usize,
+    pub ghost below: { at < N },
+}
+
+// The index of a peer slot.
+pub type SlotIndex = Index<8>;
+
+impl<const N: usize> Index<N> {
+    // The index with this number, if it is one.
+    pub fn new(at: usize) -> Option<Self>
+        ensures some { at < N → is_some result ≡ true }
+        ensures is { IfSome result (λ i. i.at ≡ at) }
+        ensures none { N ≤ at → result ≡ None }
+    {
+        if at < N {
+            return Some(Index { at });
+        }
+        None
+    }
+}
+
 // A CA sequence number: unsigned, counted apart from CSA numbers (document 01, 'Packet layouts').
-#[derive(Clone, Copy)]
+#[derive(Clone, Copy, PartialEq, Eq)]
 pub struct CaNumber(pub u32);
 
 // A CSA sequence number: signed, -2147483648 reserved (document 01, 'Packet layouts').
-#[derive(Clone, Copy)]
+#[derive(Clone, Copy, PartialEq, Eq, PartialOrd, Ord)]
 pub struct CsaNumber(pub i32);
 
 // The five types of packet. `type_of` gives the number of each.
-#[derive(Clone, Copy)]
+#[derive(Clone, Copy, PartialEq, Eq)]
 pub enum Kind {
     Ca,
     CsuRequest,
@@ -20,36 +46,22 @@ pub enum Kind {
 }
 
 // The M, I and O bits of a CA.
-#[derive(Clone, Copy)]
+#[derive(Clone, Copy, PartialEq, Eq)]
 pub struct CaFlags {
     pub master: bool,
     pub initial: bool,
     pub more: bool,
 }
 
-// Whether the fields of a packet obey the rules, or the position of the first that does not.
-#[derive(Clone, Copy)]
-pub enum Checked {
-    Fine,
-    Breaks(usize),
-}
-
-// What follows a CSA number when its entry changes: the next one, or none.
-#[derive(Clone, Copy)]
-pub enum Step {
-    Number(CsaNumber),
-    Spent,
-}
-
 // The side of a peer in an alignment.
-#[derive(Clone, Copy)]
+#[derive(Clone, Copy, PartialEq, Eq)]
 pub enum Role {
     Master,
     Slave,
 }
 
 // The states of the Hello machine (document 01, 'Hello').
-#[derive(Clone, Copy)]
+#[derive(Clone, Copy, PartialEq, Eq)]
 pub enum HelloState {
     Down,
     Waiting,
@@ -58,7 +70,7 @@ pub enum HelloState {
 }
 
 // The states of the alignment machine (document 01, 'Alignment').
-#[derive(Clone, Copy)]
+#[derive(Clone, Copy, PartialEq, Eq)]
 pub enum Alignment {
     Down,
     Negotiate,
@@ -68,22 +80,15 @@ pub enum Alignment {
 }
 
 // The sequence number and the flags of a CA.
-#[derive(Clone, Copy)]
+#[derive(Clone, Copy, PartialEq, Eq)]
 pub struct CaHead {
     pub number: CaNumber,
     pub flags: CaFlags,
 }
 
-// When something was last done, if it was.
-#[derive(Clone, Copy)]
-pub enum Last {
-    Never,
-    At(u32),
-}
-
 // The Hello and the alignment machine of a slot, with what their moves go by: the last Hello taken, the CA number, the
 // last CA taken, and whether our last CA said that more follows.
-#[derive(Clone, Copy)]
+#[derive(Clone, Copy, PartialEq, Eq)]
 pub struct Link {
     pub hello: HelloState,
     pub heard: u32,
@@ -96,11 +101,11 @@ pub struct Link {
     pub more: bool,
 }
 
-// When each kind of packet was last sent to a slot: a Hello since link up, the others since Negotiate began.
-#[derive(Clone, Copy)]
+// When each kind of packet was last sent to a slot, if it was: a Hello since link up, the others since Negotiate began.
+#[derive(Clone, Copy, PartialEq, Eq)]
 pub struct Timers {
-    pub hello: Last,
-    pub ca: Last,
-    pub csus: Last,
-    pub update: Last,
+    pub hello: Option<u32>,
+    pub ca: Option<u32>,
+    pub csus: Option<u32>,
+    pub update: Option<u32>,
 }

@@ -59,7 +59,7 @@ module _ (s : List ℕ) (k : ℕ) where
     pub asking_none : Asking out₀ 28 0
     asking_none = record { long = refl; within = omega arith; puts = puts_none 32 28 out₀ }
 
-    module _ (c : ℕ) (size : c ≡ length (requests_in s k)) (is : most ≡ min 4 c) (out : List ℕ) (next i : ℕ) (a : Asking out next i) where
+    module _ (c : ℕ) (size : c ≡ length (requests_in s k)) (is : most ≡ min c 4) (out : List ℕ) (next i : ℕ) (a : Asking out next i) where
       pub asking_all : most ≤ i → Places 32 (map request_record (take 4 (requests_in s k))) 28 out₀ out (record { count = most; next = next })
           × (most ≤ 4)
       asking_all h =

@@ -6,11 +6,11 @@ use mathlib.Core.Bool.{Bool, true, false}
 use mathlib.Core.List.{List, [], ◌∷◌, ◌++◌, append-nil, append_assoc}
 use native.Mathlib.Numerals.{add-one}
 use native.Mathlib.Omega.{arith}
-use lib.ListN.{length, take, drop, get_or, drop_of_length-le, length-append}
-use lib.Seq.{drop-cons, get_or-take, length-take-le}
+use lib.ListN.{length, drop, get_or, drop_of_length-le, length-append}
+use lib.Seq.{drop-cons}
 use Rattle.protocol.specs.declared.CsaNumber.{CsaNumber}
 use Rattle.protocol.specs.Messages.{CsaRecord}
-use Rattle.rules.specs.Server.{rows_most, Entry, Value, Row, free, used, is_used, row_at}
+use Rattle.rules.specs.Server.{rows_most, Entry, Value, Row, free, used, is_used}
 use Rattle.rules.specs.Rows.{used1, rows_of}
 use Rattle.rules.specs.Updates.{record_of}
 use Rattle.rules.specs.Alignment.{summary_record}
@@ -36,17 +36,12 @@ module _ (s : List ℕ) (i : ℕ) (long : length s ≡ memory_size) (below : i <
     pub row_summary : entry_record 1 false number (entry_named name) [] ≡ summary_record (row_entry s i) (value_at s i)
     row_summary = λ j. entry_record 1 false (n j) (row_named j) []
 
--- whole, or its summary
-module _ (whole : Bool) (s : List ℕ) (i at : ℕ) (out after : List ℕ) (n : ℕ) where
-  pub as_whole : (hops : ℕ) → whole ≡ true → hops ≡ (value_at s i).remaining → Puts 64 (record_of hops (row_entry s i) (value_at s i) ∷ []) at out after n
-      → Puts (most_of whole) (shape_of whole (row_entry s i) (value_at s i) ∷ []) at out after n
-  as_whole hops t h p =
-      rw t (subst (λ (x : ℕ). Puts 64 (record_of x (row_entry s i) (value_at s i) ∷ []) at out after n) h p)
+pub as_summary : (whole : Bool) (s : List ℕ) (i at : ℕ) (out after : List ℕ) (n : ℕ) (v : CsaRecord) → whole ≡ false
+    → v ≡ summary_record (row_entry s i) (value_at s i) → Puts 32 (v ∷ []) at out after n
+    → Puts (most_of whole) (shape_of whole (row_entry s i) (value_at s i) ∷ []) at out after n
+as_summary whole s i at out after n v t h p = rw t (subst (λ (x : CsaRecord). Puts 32 (x ∷ []) at out after n) h p)
 
-  pub as_summary : (v : CsaRecord) → whole ≡ false → v ≡ summary_record (row_entry s i) (value_at s i) → Puts 32 (v ∷ []) at out after n
-      → Puts (most_of whole) (shape_of whole (row_entry s i) (value_at s i) ∷ []) at out after n
-  as_summary v t h p = rw t (subst (λ (x : CsaRecord). Puts 32 (x ∷ []) at out after n) h p)
-
+-- one record more, or none
 module _ (whole : Bool) (s : List ℕ) (i : ℕ) (to : Placed) (out : List ℕ) (u : Bool) (is : u ≡ is_used (row_in s i)) where
   pub row_put_lem : (after : List ℕ) (n : ℕ) → u ≡ true → Puts (most_of whole) (shape_of whole (row_entry s i) (value_at s i) ∷ []) to.next out after n
       → Adds (most_of whole) (used1 (shape_of whole) (row_in s i) []) to out after (record { count = to.count + 1; next = n })
@@ -74,32 +69,30 @@ most_room : (whole : Bool) (at n done : ℕ) (out : List ℕ) → at + (3 * most
 most_room true at n done out h e f = omega arith
 most_room false at n done out h e f = omega arith
 
-module _ (s places : List ℕ) (count : ℕ) (whole : Bool) (at : ℕ) (out₀ : List ℕ) where
+module _ (s places : List ℕ) (whole : Bool) (at : ℕ) (out₀ : List ℕ) where
   abbrev shape : Entry → Value → CsaRecord
   shape = shape_of whole
 
-  -- of the first `count` places those from i on are left
+  -- of the places those from i on are left
   pub record Holding (out : List ℕ) (to : Placed) (i : ℕ) : Type 0 where
     pub long : length out ≡ length out₀
     pub done : List CsaRecord
-    pub within : i ≤ count
+    pub within : i ≤ length places
     pub few : length done ≤ i
-    pub going : rows_of shape (rows_in s) (take count places) ≡ done ++ rows_of shape (rows_in s) (drop i (take count places))
+    pub going : rows_of shape (rows_in s) places ≡ done ++ rows_of shape (rows_in s) (drop i places)
     pub placed : Places (most_of whole) done at out₀ out to
 
   pub holding_none : Holding out₀ (record { count = 0; next = at }) 0
   holding_none = record { long = refl; done = []; within = omega arith; few = omega arith; going = refl; placed = places_none (most_of whole) at out₀ }
 
-  module _ (out : List ℕ) (to : Placed) (i : ℕ) (a : Holding out to i) (c : count ≤ 4) (l : length places ≡ 4) where
-    pub holding_all : count ≤ i → Places (most_of whole) (rows_of shape (rows_in s) (take count places)) at out₀ out to × (to.count ≤ 4)
+  module _ (out : List ℕ) (to : Placed) (i : ℕ) (a : Holding out to i) (four : length places ≤ 4) where
+    pub holding_all : length places ≤ i → Places (most_of whole) (rows_of shape (rows_in s) places) at out₀ out to × (to.count ≤ 4)
     holding_all h =
-        let w : length (take count places) ≡ count = length-take-le count places (omega arith) in
-        let k : length (take count places) ≤ i = omega arith in
-        let e : rows_of shape (rows_in s) (take count places) ≡ a.done =
-        a.going ∙ ap (λ (z : List ℕ). a.done ++ rows_of shape (rows_in s) z) (drop_of_length-le (take count places) k) ∙ append-nil a.done in
+        let e : rows_of shape (rows_in s) places ≡ a.done =
+        a.going ∙ ap (λ (z : List ℕ). a.done ++ rows_of shape (rows_in s) z) (drop_of_length-le places h) ∙ append-nil a.done in
         (places_as (most_of whole) at out₀ out to (sym e) a.placed, omega (arith, a.placed.count, a.few, a.within))
 
-    module _ (h : i < count) (room : at + (3 * most_of whole + 64) ≤ length out₀) where
+    module _ (h : i < length places) (room : at + (3 * most_of whole + 64) ≤ length out₀) where
       pub holding_room : (to.next + 64 ≤ length out) × (to.count ≤ 4)
       holding_room =
           let f = a.few in
@@ -111,11 +104,9 @@ module _ (s places : List ℕ) (count : ℕ) (whole : Bool) (at : ℕ) (out₀ :
       pub holding_more : (out' : List ℕ) (x : Placed) → length out' ≡ length out
           → Adds (most_of whole) (used1 shape (row_in s (get_or places i 0 % 64)) []) to out out' x → Holding out' x (i + 1)
       holding_more out' x kept e =
-          let p : List ℕ = take count places in
-          let w : length p ≡ count = length-take-le count places (omega arith) in
           let j : ℕ = get_or places i 0 % 64 in
           let one : List CsaRecord = used1 shape (row_in s j) [] in
-          let rest : List CsaRecord = rows_of shape (rows_in s) (drop (suc i) p) in
+          let rest : List CsaRecord = rows_of shape (rows_in s) (drop (suc i) places) in
           let g = a.long in
           let f = a.few in
           let near = holding_room.0 in
@@ -128,11 +119,10 @@ module _ (s places : List ℕ) (count : ℕ) (whole : Bool) (at : ℕ) (out₀ :
             few = omega arith;
             going =
                 a.going
-                ∙ ap (λ (z : List ℕ). a.done ++ rows_of shape (rows_in s) z) (drop-cons p i 0 (omega arith))
-                ∙ ap (λ (z : ℕ). a.done ++ used1 shape (row_at (rows_in s) (z % 64)) rest) (get_or-take count places i 0 h)
+                ∙ ap (λ (z : List ℕ). a.done ++ rows_of shape (rows_in s) z) (drop-cons places i 0 h)
                 ∙ ap (λ (r : Row). a.done ++ used1 shape r rest) (row_get s j (omega arith))
                 ∙ ap (λ (z : List CsaRecord). a.done ++ z) (used1_first shape (row_in s j) rest)
                 ∙ sym (append_assoc a.done one rest)
-                ∙ ap (λ (n : ℕ). (a.done ++ one) ++ rows_of shape (rows_in s) (drop n p)) (sym (add-one i));
+                ∙ ap (λ (n : ℕ). (a.done ++ one) ++ rows_of shape (rows_in s) (drop n places)) (sym (add-one i));
             placed = places_then (most_of whole) at out₀ a.done one out out' to x (omega arith) a.placed e;
           }

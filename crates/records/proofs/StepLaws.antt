@@ -1,19 +1,18 @@
 -- Record after record: what one leaves and then the rest is what all leave. Summaries, and records that change the row of their entry.
 -- Assumes nothing.
 use Prim.Native.Nat.{ℕ, ◌<◌}
-use mathlib.Core.Path.{◌≡◌, refl, sym, ap, ◌∙◌, subst}
+use mathlib.Core.Path.{◌≡◌, refl, sym, ap, ◌∙◌}
 use mathlib.Core.List.{List, [], ◌∷◌}
 use Rattle.laws.specs.Tables.{change}
 use Rattle.protocol.specs.Messages.{CsaRecord}
-use Rattle.rules.specs.Server.{Row, Entry, holds}
+use Rattle.rules.specs.Server.{Row, holds}
 use Rattle.rules.specs.Requests.{entry_of, Wanted, taken_in, all_taken_in}
 use Rattle.rules.specs.Updates.{each_row}
-use Rattle.memory.specs.Memory.{entry_named, rows_in, memory_of, with_rows, requests_put}
-use Rattle.memory.specs.Lists.{wanted_now, TakesIn}
+use Rattle.memory.specs.Memory.{rows_in, memory_of, with_rows, requests_put}
+use Rattle.memory.specs.Lists.{wanted_now}
 use Rattle.memory.specs.Entries.{rows_as}
 use Rattle.protocol.specs.declared.CsaNumber.{CsaNumber}
-use Rattle.records.specs.Walks.{Named, wanted_by, TakesAll, TakesOne}
-use Rattle.records.proofs.WalkLaws.{named_of}
+use Rattle.records.specs.Walks.{wanted_by, TakesAll, TakesOne}
 use Rattle.records.proofs.MemoryLaws.{memory_rows, requests_same, requests_twice, rows_stay, requests_after, rows_are}
 
 -- ---- summaries
@@ -25,12 +24,6 @@ module _ (k : ℕ) where
   takes_end s n rs e = rw e (takes_none s n)
 
   module _ (v : CsaRecord) (n : ℕ) (s t : List ℕ) (m : ℕ) where
-    pub takes_one : (name : List ℕ) (number : CsaNumber) → Named v name number → TakesIn k (entry_named name) number n s t m → TakesOne k v n s t m
-    takes_one name number q h =
-        let e = named_of v name number q in
-        let g = subst (λ (x : Entry × CsaNumber). TakesIn k x.0 x.1 n s t m) (λ i. (e i, q.number_is i)) h in
-        record { list = g.list; count = g.count }
-
     module _ (h : k < 8) (one : TakesOne k v n s t m) where
       now_wanted : wanted_now k m t ≡ taken_in (rows_in s) v (wanted_now k n s)
       now_wanted =
@@ -59,14 +52,11 @@ module _ (f : CsaNumber → Row → Row) where
   each_end s rs e = rw e (ap (λ (rows : List Row). with_rows rows (memory_of s)) (memory_rows s))
 
   module _ (v : CsaRecord) (s t : List ℕ) where
-    pub each_one : (name : List ℕ) (number : CsaNumber) → Named v name number
-        → memory_of t ≡ rows_as (change (holds (entry_named name)) (f number)) s → memory_of t ≡ rows_as (change (holds (entry_of v)) (f v.number)) s
-    each_one name number q h = h ∙ (λ i. rows_as (change (holds (named_of v name number q i)) (f (q.number_is i))) s)
-
     module _ (one : memory_of t ≡ rows_as (change (holds (entry_of v)) (f v.number)) s) where
       pub each_rows : rows_in t ≡ change (holds (entry_of v)) (f v.number) (rows_in s)
       each_rows = rows_are s t (change (holds (entry_of v)) (f v.number) (rows_in s)) one
 
-      pub each_then : (all rs : List CsaRecord) → all ≡ v ∷ rs → (u : List ℕ) → memory_of u ≡ rows_as (each_row f rs) t → memory_of u ≡ rows_as (each_row f all) s
+      pub each_then : (all rs : List CsaRecord) → all ≡ v ∷ rs → (u : List ℕ) → memory_of u ≡ rows_as (each_row f rs) t
+          → memory_of u ≡ rows_as (each_row f all) s
       each_then all rs e u rest =
           rest ∙ (λ i. with_rows (each_row f rs (each_rows i)) (one i)) ∙ ap (λ (l : List CsaRecord). rows_as (each_row f l) s) (sym e)

@@ -1,14 +1,13 @@
 -- What the functions over the records of a packet ask and leave.
 -- Assumes nothing.
-use Rattle.std.specs.Prelude.{ℕ, ◌+◌, ◌*◌, ◌≤◌, ◌≡◌, Bool, List, [], ◌∷◌, ◌++◌}
+use denote.Struct.Props.{props}
+use Rattle.std.specs.Coded.{×_prop, Unit-prop}
+use Rattle.std.specs.Prelude.{ℕ, ◌+◌, ◌*◌, ◌≤◌, ◌≡◌, Bool, List, [], ◌∷◌}
 use Rattle.laws.specs.Lists.{All}
 use Rattle.laws.specs.Choice.{pick}
 use Rattle.laws.specs.Tables.{change}
-use Rattle.protocol.specs.declared.CsaNumber.{CsaNumber}
 use Rattle.protocol.specs.Numbers.{newer}
 use Rattle.protocol.specs.Messages.{CsaRecord}
-use Rattle.protocol.specs.Sizes.{id_length}
-use Rattle.protocol.specs.Reading as reading
 use Rattle.rules.specs.Server.{holds}
 use Rattle.rules.specs.Requests.{entry_of, Wanted, all_taken_in}
 use Rattle.rules.specs.Updates as rules
@@ -34,20 +33,13 @@ pub record Walks (p : List ℕ) (c : Cursor) : Type 0 where
   pub reach : c.at + c.left * 65535 ≤ 1048576
   pub fits : All Fits (records_of p c)
 
--- ---- one record
--- the record at r
-abbrev pub csa_at : List ℕ → ℕ → CsaRecord
-csa_at p r = reading.record_at id_length p r
+-- each has at most one proof, as a field of a struct asks
+fits-prop : (rs : List CsaRecord) → IsProp (All Fits rs)
+fits-prop [] = Unit-prop
+fits-prop (r ∷ rs) = ×_prop (hlevel props) (fits-prop rs)
 
--- a record at r, in reach, that fits a row
-abbrev pub FitsAt : List ℕ → ℕ → Type 0
-FitsAt p r = (r ≤ 1048576) × Fits (csa_at p r)
-
--- name and number of a record that fits a row
-pub record Named (v : CsaRecord) (name : List ℕ) (number : CsaNumber) : Type 0 where
-  pub fits : Fits v
-  pub name_is : name ≡ v.key ++ v.originator
-  pub number_is : number ≡ v.number
+pub Walks-prop : (p : List ℕ) (c : Cursor) → IsProp (Walks p c)
+Walks-prop p c = hlevel (props, fits-prop)
 
 -- ---- summaries
 abbrev pub wanted_by : ℕ → List CsaRecord → ℕ → List ℕ → Wanted
@@ -90,7 +82,8 @@ updated_now k replies s = record { rows = rows_in s; requests = requests_of (mem
 -- the memory after an update record from slot k, and the rule that it took
 pub record UpdatesOne (live : ℕ → Bool) (k : ℕ) (v : CsaRecord) (before after : List ℕ) (u : rules.UpdateRule) : Type 0 where
   pub rule : u ≡ update_rule v (rows_in before)
-  pub memory : memory_of after ≡ with_rows (rows_by u live k v (rows_in before)) (requests_put k (requests_by u v (requests_of (memory_of before) k)) (memory_of before))
+  pub memory : memory_of after ≡ with_rows (rows_by u live k v (rows_in before))
+      (requests_put k (requests_by u v (requests_of (memory_of before) k)) (memory_of before))
 
 -- the memory after it, and its summary put if it is acknowledged
 pub record Updates (live : ℕ → Bool) (k : ℕ) (v : CsaRecord) (before after out out' : List ℕ) (to x : Placed) : Type 0 where

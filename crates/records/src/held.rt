@@ -1,22 +1,22 @@
 // Rows put as records.
-ghost use Rattle.std.specs.Prelude.{◌+◌, ◌*◌, ◌≤◌, ◌<◌, ◌≡◌, [], ◌∷◌, length};
-ghost use Rattle.rules.specs.Server.{rows_most};
+ghost use Rattle.std.specs.Prelude.{◌+◌, ◌*◌, ◌≤◌, ◌≡◌, [], ◌∷◌, length};
 ghost use Rattle.rules.specs.Rows.{used1, rows_of};
 ghost use Rattle.rules.specs.Updates.{record_of};
-ghost use Rattle.memory.specs.Layout.{memory_size};
 ghost use Rattle.memory.specs.Memory.{row_entry, value_at, row_in, rows_in};
 ghost use Rattle.memory.specs.Marks.{picks_of};
 ghost use Rattle.records.specs.Places.{Puts, Adds, Places, shape_of, most_of};
 
 use crate::put::{Placed, put_summary};
 use memory::next::Picks;
-use memory::rows;
+use memory::rows::RowIndex;
+use memory::{Storage, rows};
+use protocol::Index;
 use writer::write::put_record;
 
 // What row i holds, with this hop count.
-pub fn put_row(memory: &[u8], i: usize, hops: u16, out: &mut [u8], at: usize) -> usize
-    requires { ((length memory.now ≡ memory_size) × (i < rows_most)) × (at + 64 ≤ length out.old) }
-    ensures { Puts 64 (record_of hops (row_entry memory.now i) (value_at memory.now i) ∷ []) at out.old
+pub fn put_row(memory: &Storage, i: RowIndex, hops: u16, out: &mut [u8], at: usize) -> usize
+    requires { at + 64 ≤ length out.old }
+    ensures { Puts 64 (record_of hops (row_entry memory.now i.at) (value_at memory.now i.at) ∷ []) at out.old
         out.new result }
 {
     let number = rows::number_of(memory, i);
@@ -31,10 +31,10 @@ pub fn put_row(memory: &[u8], i: usize, hops: u16, out: &mut [u8], at: usize) ->
     )
 }
 
-// Row i whole, hop count what remains, or its summary.
-fn put_as(memory: &[u8], i: usize, whole: bool, out: &mut [u8], at: usize) -> usize
-    requires { ((length memory.now ≡ memory_size) × (i < rows_most)) × (at + 64 ≤ length out.old) }
-    ensures { Puts (most_of whole) (shape_of whole (row_entry memory.now i) (value_at memory.now i) ∷ []) at
+// Row i whole, hop count what remains, or its summary. A flag says which, as `shape_of` and `most_of` do in the contract.
+fn put_as(memory: &Storage, i: RowIndex, whole: bool, out: &mut [u8], at: usize) -> usize
+    requires { at + 64 ≤ length out.old }
+    ensures { Puts (most_of whole) (shape_of whole (row_entry memory.now i.at) (value_at memory.now i.at) ∷ []) at
         out.old out.new result }
 {
     if whole {
@@ -46,9 +46,9 @@ fn put_as(memory: &[u8], i: usize, whole: bool, out: &mut [u8], at: usize) -> us
 }
 
 // One more for a used row.
-fn put_used(memory: &[u8], i: usize, whole: bool, out: &mut [u8], to: Placed) -> Placed
-    requires { ((length memory.now ≡ memory_size) × (i < rows_most)) × ((to.next + 64 ≤ length out.old) × (to.count ≤ 4)) }
-    ensures { Adds (most_of whole) (used1 (shape_of whole) (row_in memory.now i) []) to out.old out.new result }
+fn put_used(memory: &Storage, i: RowIndex, whole: bool, out: &mut [u8], to: Placed) -> Placed
+    requires { (to.next + 64 ≤ length out.old) × (to.count ≤ 4) }
+    ensures { Adds (most_of whole) (used1 (shape_of whole) (row_in memory.now i.at) []) to out.old out.new result }
 {
     if rows::is_used(memory, i) {
         let next = put_as(memory, i, whole, out, to.next);
@@ -61,18 +61,14 @@ fn put_used(memory: &[u8], i: usize, whole: bool, out: &mut [u8], to: Placed) ->
 }
 
 // The rows that were picked, the free ones left out.
-pub fn picked(memory: &[u8], p: Picks, whole: bool, out: &mut [u8], at: usize) -> Placed
-    requires { ((length memory.now ≡ memory_size) × (at + (3 * most_of whole + 64) ≤ length out.old))
-        × ((p.count ≤ 4) × (length p.rows ≡ 4)) }
+pub fn picked(memory: &Storage, p: Picks, whole: bool, out: &mut [u8], at: usize) -> Placed
+    requires { at + (3 * most_of whole + 64) ≤ length out.old }
     ensures { Places (most_of whole) (rows_of (shape_of whole) (rows_in memory.now) (picks_of p)) at out.old out.new result
         × (result.count ≤ 4) }
 {
-    let places = p.rows;
     let mut to = Placed { count: 0, next: at };
-    let mut i: usize = 0;
-    while i < p.count {
-        to = put_used(memory, places[i] % 64, whole, out, to);
-        i += 1;
+    for place in p.places() {
+        to = put_used(memory, Index { at: *place % 64 }, whole, out, to);
     }
     to
 }

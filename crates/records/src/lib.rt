@@ -3,9 +3,11 @@
 
 pub mod asked;
 pub mod held;
+pub mod packet;
 pub mod put;
 pub mod replies;
 pub mod solicited;
 pub mod standing;
 pub mod summaries;
 pub mod updates;
+pub mod view;

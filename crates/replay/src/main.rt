@@ -2,7 +2,9 @@
 // reading and the writing is `lines::chunk`.
 #![tactic(auto)]
 
+use memory::Storage;
 use slots::state::Server;
+use table::Slots;
 
 // Whole records that are read at once: 224.
 const CHUNK: usize = 65408;
@@ -14,15 +16,14 @@ fn print(text: &[u8; 20480], n: usize) {
 // The records behind the first, a chunk at a time: the input ends where it does not fill the space for a chunk.
 fn rest(
     s: Server,
-    slots: &mut [usize; 200],
-    memory: &mut [u8; 21504],
+    slots: &mut Slots,
+    memory: &mut Storage,
     input: &mut [u8],
     text: &mut [u8; 20480],
 ) {
     let mut x = s;
     let mut number: u64 = 1;
-    let mut turns = u64::MAX;
-    while turns > 0 {
+    for _ in 0..u64::MAX {
         let n = io::read_full(0, input);
         let last = n < input.len();
         let c = lines::chunk::replay(
@@ -40,12 +41,11 @@ fn rest(
         }
         x = c.server;
         number = c.number;
-        turns -= 1;
     }
 }
 
 fn main() {
-    let mut slots = [0usize; 200];
+    let mut slots = table::empty();
     let mut memory = [0u8; 21504];
     let mut text = [0u8; 20480];
     let mut input = [0u8; 292];
@@ -53,8 +53,7 @@ fn main() {
     let first = lines::chunk::open(&mut slots, &mut memory, octets::first(&input, n), &mut text);
     print(&text, first.text);
     let a = first.answer;
-    let outcome = a.outcome;
-    if !slots::answers::is_taken(outcome) {
+    if a.outcome.is_err() {
         return;
     }
     let mut space = [0u8; CHUNK];

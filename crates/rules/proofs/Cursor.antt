@@ -18,7 +18,7 @@ use Rattle.laws.proofs.Cells.{set_here}
 use Rattle.protocol.specs.declared.Alignment.{Alignment}
 use Rattle.protocol.specs.declared.Alignment.TheVariants.{Down, Negotiate, Summarize, Update, Aligned}
 use Rattle.protocol.specs.declared.Link.{Link}
-use Rattle.protocol.specs.declared.Last.TheVariants.{Never}
+use Rattle.std.specs.Prelude.{None}
 use Rattle.protocol.specs.Sizes.{id_length}
 use Rattle.protocol.specs.Messages.{Message, Body, ca, csu_request, csu_reply, csus, hello}
 use Rattle.protocol.specs.Reading.{Reading, refused, malformed, message, read_packet}
@@ -184,7 +184,7 @@ module _ (s : Server) (v : Inv s) (a : KeptCa s) (k : ℕ) where
   steps (add_peer j id) true q h = stood (quiet_event (add_peer j id) j (λ w. absurd (false≢true w)) h) refl
   steps (link_up j now) true q h =
       let x = slot_at s j in
-      let y = hello_sent Never (moved (up_move x.link) x) in
+      let y = hello_sent None (moved (up_move x.link) x) in
       stood (quiet_event (link_up j now) j
       (pick_of (λ (z : Slot). Live z → z.cursor ≡ x.cursor) (is_down x.link.hello) y x (cursor_moved (up_move x.link) x) (λ _. refl)) h) refl
   steps (link_down j now) true q h = stood (quiet_event (link_down j now) j (cursor_moved (down_move (slot_at s j).link) (slot_at s j)) h) refl

@@ -14,7 +14,7 @@ use Rattle.protocol.specs.declared.CaNumber.{CaNumber}
 use Rattle.protocol.specs.declared.CaFlags.{CaFlags}
 use Rattle.protocol.specs.declared.Alignment.{Alignment}
 use Rattle.protocol.specs.declared.Alignment.TheVariants.{Down, Negotiate, Summarize, Update, Aligned}
-use Rattle.protocol.specs.declared.Last.TheVariants.{Never}
+use Rattle.std.specs.Prelude.{None}
 use Rattle.protocol.specs.declared.Link.{Link}
 use Rattle.protocol.specs.Sizes.{id_length}
 use Rattle.protocol.specs.Fields.{octet}
@@ -199,7 +199,7 @@ module _ (s : Server) (h : KeptCa s) where
   kept_after (add_peer k id) j at c = none_kept Down refl
   kept_after (link_up k now) j at c =
       let x : Slot = slot_at s j in
-      pick_of KeepsCa (is_down x.link.hello) (hello_sent Never (moved (up_move x.link) x)) x
+      pick_of KeepsCa (is_down x.link.hello) (hello_sent None (moved (up_move x.link) x)) x
       (kept_moved (up_move x.link) x (up_from x.link) (h j)) (h j)
   kept_after (link_down k now) j at c = kept_moved (down_move (slot_at s j).link) (slot_at s j) (never (slot_at s j).link.alignment) (h j)
   kept_after (packet k now p room) j at c =

@@ -12,7 +12,7 @@ use Rattle.laws.specs.Tables.{has, change}
 use Rattle.laws.proofs.Integers.{to_z_any}
 use Rattle.protocol.specs.declared.Kind.{Kind}
 use Rattle.protocol.specs.declared.Kind.TheVariants.{Ca, CsuRequest, CsuReply, Csus, Hello}
-use Rattle.protocol.specs.declared.Checked.TheVariants.{Fine}
+use Rattle.protocol.specs.Checks.{Fine}
 use Rattle.protocol.specs.Sizes.{id_length, payload_most}
 use Rattle.protocol.specs.Fields.{octet, field4}
 use Rattle.protocol.specs.declared.CsaNumber.{CsaNumber}

@@ -17,8 +17,8 @@ use Rattle.protocol.specs.declared.HelloState.TheVariants.{Waiting, Bidirectiona
 use Rattle.protocol.specs.declared.Alignment.{Alignment}
 use Rattle.protocol.specs.declared.Alignment.TheVariants.{Down, Negotiate, Summarize, Update, Aligned}
 use Rattle.protocol.specs.declared.Link.{Link}
-use Rattle.protocol.specs.declared.Last.{Last}
-use Rattle.protocol.specs.declared.Last.TheVariants.{Never, At}
+use Rattle.std.specs.Prelude.{Option}
+use Rattle.std.specs.Prelude.{None, Some}
 use Rattle.protocol.specs.Numbers.{next_ca}
 use Rattle.protocol.specs.Hello.{stale}
 use Rattle.protocol.specs.Messages.{CsaRecord, Message, ca, csu_request, csu_reply}
@@ -63,16 +63,16 @@ unfolding packet_of layout
 request_no_ca s x rs = pick_of (λ (o : Sent). is_ca (octets_of o) ≡ false) (is_empty rs) nothing (sentPacket (to_peer s x (csu_request rs))) refl refl
 
 -- ---- a slot that is seen
-abbrev pub seen : Link → Bool → Last → SlotHistory
+abbrev pub seen : Link → Bool → Option ℕ → SlotHistory
 seen l kept sent = record { link = l; kept = kept; sent = sent }
 
 -- a slot whose link moved
 pub moved_seen : (l : Link) (x : Slot) → seen_of (moved l x)
     ≡ seen (past_link l) (pick (enters x.link.alignment l.alignment) false (not (is_empty x.kept)))
-    (pick (enters x.link.alignment l.alignment) Never x.timers.ca)
+    (pick (enters x.link.alignment l.alignment) None x.timers.ca)
 moved_seen l x = by (enters x.link.alignment l.alignment) where
   by : (b : Bool) → seen_of (pick b (emptied (with_link l x)) (with_link l x))
-      ≡ seen (past_link l) (pick b false (not (is_empty x.kept))) (pick b Never x.timers.ca)
+      ≡ seen (past_link l) (pick b false (not (is_empty x.kept))) (pick b None x.timers.ca)
   by true = refl
   by false = refl
 
@@ -106,23 +106,23 @@ quiet_by true b c kept p q = refl
 quiet_by false b c kept p q = rw (p, q)
 
 pub quiet_seen : (e : Event) (l : Link) (m : Link) (x : Slot) → past_link l ≡ m → Stays (past_link x.link) m
-    → ((a : Alignment) (t : Last) → drops_at e a t ≡ false)
+    → ((a : Alignment) (t : Option ℕ) → drops_at e a t ≡ false)
     → seen_of (moved l x) ≡ quiet e m (seen_of x)
 quiet_seen e l m x f g d =
     moved_seen l x
-    ∙ (λ i. seen (f i) (pick (same i) false (not (is_empty x.kept))) (pick (same i) Never x.timers.ca))
-    ∙ ap (λ (b : Bool). seen m b (pick (enters (past_as x.link.alignment) m.alignment) Never x.timers.ca))
+    ∙ (λ i. seen (f i) (pick (same i) false (not (is_empty x.kept))) (pick (same i) None x.timers.ca))
+    ∙ ap (λ (b : Bool). seen m b (pick (enters (past_as x.link.alignment) m.alignment) None x.timers.ca))
     (sym (quiet_by (enters (past_as x.link.alignment) m.alignment) _ _ (not (is_empty x.kept)) g (d m.alignment _)))
   where
     same : enters x.link.alignment l.alignment ≡ enters (past_as x.link.alignment) m.alignment
     same = sym (enters_past x.link.alignment l.alignment) ∙ ap (λ (n : Link). enters (past_as x.link.alignment) n.alignment) f
 
 -- a slot that stays, with none dropped
-pub still : (e : Event) (y : SlotHistory) → ((a : Alignment) (t : Last) → drops_at e a t ≡ false) → y ≡ quiet e y.link y
+pub still : (e : Event) (y : SlotHistory) → ((a : Alignment) (t : Option ℕ) → drops_at e a t ≡ false) → y ≡ quiet e y.link y
 still e y d =
     let a : Alignment = y.link.alignment in
     let f : enters a a ≡ false = enters_same a in
-    let t : Last = pick (enters a a) Never y.sent in
+    let t : Option ℕ = pick (enters a a) None y.sent in
     let g : t ≡ y.sent = rw f in
     let h : pick (enters a a || (master_enters a a || drops_at e a t)) false y.kept ≡ y.kept = rw (f, master_same a, d a y.sent) in
     λ i. seen y.link (sym h i) (sym g i)
@@ -177,7 +177,7 @@ module _ (id : List ℕ) (c : CaIn) (kept : Bool) (l : Link) where
 
 -- ---- a CA moves a slot as the history says
 module _ (s : Settings) (now : ℕ) (rows : List Row) (c : CaPacket) (x : Slot) (k : KeepsCa x) (e : Event) (at : time_of e ≡ now)
-    (d : (a : Alignment) (t : Last) → drops_at e a t ≡ false) where
+    (d : (a : Alignment) (t : Option ℕ) → drops_at e a t ≡ false) where
   abbrev wrote : CaRule → List ℕ
   wrote u = octets_of (ca_sent_by u s rows c x)
 
@@ -185,7 +185,7 @@ module _ (s : Settings) (now : ℕ) (rows : List Row) (c : CaPacket) (x : Slot) 
   abbrev by_rule_lem : CaRule → SlotHistory
   by_rule_lem u =
       let m = ca_move u c.seen (more_in (wrote u)) (past_link x.link) in
-      pick (is_ca (wrote u)) (seen m true (At (time_of e))) (quiet e m (seen_of x))
+      pick (is_ca (wrote u)) (seen m true (Some (time_of e))) (quiet e m (seen_of x))
 
   -- its link, where it is moved with the O bit `more` of our answer
   by_more : (u : CaRule) (y : Slot) (more : Bool) → y.link ≡ (moved (ca_move u c.seen (answer_more u rows x) x.link) x).link → more ≡ answer_more u rows x
@@ -197,14 +197,14 @@ module _ (s : Settings) (now : ℕ) (rows : List Row) (c : CaPacket) (x : Slot) 
 
   -- after a CA was written and is kept
   kept_so : (u : CaRule) (y : Slot) → past_link y.link ≡ ca_move u c.seen (more_in (wrote u)) (past_link x.link) → is_empty y.kept ≡ false
-      → y.timers.ca ≡ At now
+      → y.timers.ca ≡ Some now
       → is_ca (wrote u) ≡ true → seen_of y ≡ by_rule_lem u
   kept_so u y h f t i = rw (i, at) (λ j. seen (h j) (not (f j)) (t j))
 
   -- an answer shows its O bit
   answer_so : (u : CaRule) (m : Message) → wrote u ≡ packet_of m → (answering u s now rows c x).link ≡ (taking u rows c x).link
       → (answering u s now rows c x).kept ≡ packet_of m
-      → (answering u s now rows c x).timers.ca ≡ At now → more_in (wrote u) ≡ answer_more u rows x → is_ca (wrote u) ≡ true
+      → (answering u s now rows c x).timers.ca ≡ Some now → more_in (wrote u) ≡ answer_more u rows x → is_ca (wrote u) ≡ true
       → seen_of (completed (answering u s now rows c x)) ≡ by_rule_lem u
   answer_so u m w h f t q i =
       kept_so u (completed (answering u s now rows c x))
@@ -238,10 +238,10 @@ module _ (s : Settings) (now : ℕ) (rows : List Row) (c : CaPacket) (x : Slot) 
   -- the history's rule is the server's
   pub ca_step : seen_of (ca_slot (rule_for s.id c x) s now rows c x)
       ≡ (let m = ca_link s.id c.seen (not (is_empty x.kept)) (wrote (rule_for s.id c x)) (past_link x.link) in
-      pick (is_ca (wrote (rule_for s.id c x))) (seen m true (At (time_of e))) (quiet e m (seen_of x)))
+      pick (is_ca (wrote (rule_for s.id c x))) (seen m true (Some (time_of e))) (quiet e m (seen_of x)))
   ca_step =
       let u : CaRule = rule_for s.id c x in
       ca_seen u (comes s.id c.seen (not (is_empty x.kept)) x.link x.link.alignment)
       ∙ ap (λ v. let m = ca_move v c.seen (more_in (wrote u)) (past_link x.link) in
-      pick (is_ca (wrote u)) (seen m true (At (time_of e))) (quiet e m (seen_of x)))
+      pick (is_ca (wrote u)) (seen m true (Some (time_of e))) (quiet e m (seen_of x)))
       (sym (rule_past s.id c.seen (not (is_empty x.kept)) x.link))

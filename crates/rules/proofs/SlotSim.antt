@@ -14,8 +14,8 @@ use Rattle.protocol.specs.declared.Role.TheVariants.{Master, Slave}
 use Rattle.protocol.specs.declared.Alignment.{Alignment}
 use Rattle.protocol.specs.declared.Alignment.TheVariants.{Down, Negotiate, Summarize, Update, Aligned}
 use Rattle.protocol.specs.declared.Link.{Link}
-use Rattle.protocol.specs.declared.Last.{Last}
-use Rattle.protocol.specs.declared.Last.TheVariants.{Never, At}
+use Rattle.std.specs.Prelude.{Option}
+use Rattle.std.specs.Prelude.{None, Some}
 use Rattle.protocol.specs.Sizes.{id_length}
 use Rattle.protocol.specs.Messages.{summary_of, Message, Body, ca, csu_request, csu_reply, csus, hello}
 use Rattle.protocol.specs.Layouts.{layout, packet_of}
@@ -49,9 +49,9 @@ module _ (s : Settings) (live : ℕ → Bool) (k now : ℕ) (p : List ℕ) (room
   abbrev by_reading : Reading → List ℕ → SlotHistory
   by_reading r w =
       let m = read_link r s now (not (is_empty x.kept)) w (past_link x.link) in
-      pick (is_ca w) (seen m true (At now)) (quiet at_packet m (seen_of x))
+      pick (is_ca w) (seen m true (Some now)) (quiet at_packet m (seen_of x))
 
-  none_dropped : (r : Reading) → read_packet id_length p ≡ r → reads_csus r ≡ false → (a : Alignment) (t : Last) → drops_at at_packet a t ≡ false
+  none_dropped : (r : Reading) → read_packet id_length p ≡ r → reads_csus r ≡ false → (a : Alignment) (t : Option ℕ) → drops_at at_packet a t ≡ false
   none_dropped r q n a t = ap reads_csus q ∙ n
 
   csus_seen : reads_csus (read_packet id_length p) ≡ true → seen_of (with_kept [] x) ≡ quiet at_packet (past_link x.link) (seen_of x)
@@ -62,7 +62,7 @@ module _ (s : Settings) (live : ℕ → Bool) (k now : ℕ) (p : List ℕ) (room
   body_seen : (m : Message) → read_packet id_length p ≡ message m → (b : Body) → m.body ≡ b
       → seen_of (slot_on b s live k now rows m x)
       ≡ (let l = body_link b s now m (not (is_empty x.kept)) (octets_of (sent_on b s live k rows m x)) (past_link x.link) in
-      pick (is_ca (octets_of (sent_on b s live k rows m x))) (seen l true (At now)) (quiet at_packet l (seen_of x)))
+      pick (is_ca (octets_of (sent_on b s live k rows m x))) (seen l true (Some now)) (quiet at_packet l (seen_of x)))
   body_seen m q (hello i f ids) e =
       let named : Bool = names_us s.id m.receiver ids in
       quiet_seen at_packet (hello_move now i f named x.link) (hello_move now i f named (past_link x.link)) x (hello_past now i f named x.link)
@@ -142,8 +142,8 @@ module _ (s : Settings) (now : ℕ) (rows : List Row) (k : ℕ) where
     abbrev entered : Bool
     entered = enters (past_as x.link.alignment) m.alignment
 
-    abbrev sent : Last
-    sent = pick entered Never x.timers.ca
+    abbrev sent : Option ℕ
+    sent = pick entered None x.timers.ca
 
     abbrev old : Bool
     old = is_past m.alignment && passed ca_interval sent now
@@ -160,21 +160,21 @@ module _ (s : Settings) (now : ℕ) (rows : List Row) (k : ℕ) where
     looked_seen : seen_of (kept_dropped now (checked now x)) ≡ quiet (poll k now room) m (seen_of x)
     looked_seen =
         dropped_seen (moved l x)
-        ∙ ap after (moved_seen l x ∙ (λ i. seen (same_link i) (pick (same_entered i) false kept) (pick (same_entered i) Never x.timers.ca)))
+        ∙ ap after (moved_seen l x ∙ (λ i. seen (same_link i) (pick (same_entered i) false kept) (pick (same_entered i) None x.timers.ca)))
         ∙ ap (λ (b : Bool). seen m b sent)
         (drops_by entered old kept ∙ ap (λ (b : Bool). pick (entered || (b || old)) false kept) (sym (check_stays now (past_link x.link))))
 
     -- what is due
     due_seen : (y : Slot) → seen_of y ≡ quiet (poll k now room) m (seen_of x) → KeepsCa y → (d : Due) → Dues d y.link.alignment
         → seen_of (due_slot d s now rows k y)
-        ≡ (let w = octets_of (polls.due_sent d s rows k y) in pick (is_ca w) (seen m true (At now)) (quiet (poll k now room) m (seen_of x)))
+        ≡ (let w = octets_of (polls.due_sent d s rows k y) in pick (is_ca w) (seen m true (Some now)) (quiet (poll k now room) m (seen_of x)))
     unfolding packet_of layout
     due_seen y h g nothing_due u = h
     due_seen y h g a_hello u = h
-    due_seen y h g first_ca u = λ i. seen (h i).link true (At now)
+    due_seen y h g first_ca u = λ i. seen (h i).link true (Some now)
     due_seen y h g kept_ca u =
         let some = g.some u in
-        rw (g.is_ca_lem some) (λ i. seen (h i).link (not (some i)) (At now))
+        rw (g.is_ca_lem some) (λ i. seen (h i).link (not (some i)) (Some now))
     due_seen y h g a_csus u = h
     due_seen y h g an_update u = h
 
@@ -185,7 +185,7 @@ module _ (s : Settings) (now : ℕ) (rows : List Row) (k : ℕ) where
 
 -- ---- a link event
 up_seen : (k now : ℕ) (s : Settings) (x : Slot) (b : Bool) → is_down x.link.hello ≡ b
-    → seen_of (pick b (hello_sent Never (moved (up_move x.link) x)) x) ≡ event_after (link_up k now) s [] (seen_of x)
+    → seen_of (pick b (hello_sent None (moved (up_move x.link) x)) x) ≡ event_after (link_up k now) s [] (seen_of x)
 up_seen k now s x true e =
     quiet_seen (link_up k now) (up_move x.link) (up_move (past_link x.link)) x (up_past x.link) (up_stays (past_link x.link)) (λ a t. refl)
 up_seen k now s x false e =

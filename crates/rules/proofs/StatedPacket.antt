@@ -9,8 +9,9 @@ use mathlib.Core.Logic.{◌↔◌, ◌⊎◌, inl, inr, ⊎_elim}
 use native.Mathlib.Omega.{arith}
 use lib.Dec.{eqb}
 use Rattle.laws.specs.Tables.{same}
-use Rattle.protocol.specs.declared.Checked.{Checked}
-use Rattle.protocol.specs.declared.Checked.TheVariants.{Fine, Breaks}
+use Rattle.std.specs.Prelude.{Ok, Err}
+use Rattle.protocol.specs.Checks.{Checked}
+use Rattle.protocol.specs.Checks.{Fine, Breaks}
 use Rattle.protocol.specs.Sizes.{id_length}
 use Rattle.protocol.specs.Fields.{octet}
 use Rattle.protocol.specs.Checksum.{good_sum}
@@ -76,8 +77,8 @@ never_zero : (w : ℕ) (p : List ℕ) (c : ℕ) → read_packet w p ≡ refused 
 unfolding read_packet
 never_zero w p c e z = by_code_lem (fixed_code w p) e where
   by_check_lem : (d : Checked) → by_check d w (kind_of (octet p 1)) p ≡ refused c → ⊥
-  by_check_lem Fine h = let y : ◌≡◌ {A = ℕ} 0 1 = cc in omega arith
-  by_check_lem (Breaks b) h = let y : ◌≡◌ {A = ℕ} 0 1 = cc in omega arith
+  by_check_lem (Ok _) h = let y : ◌≡◌ {A = ℕ} 0 1 = cc in omega arith
+  by_check_lem (Err b) h = let y : ◌≡◌ {A = ℕ} 0 1 = cc in omega arith
 
   by_code_lem : (n : ℕ) → by_code n w (kind_of (octet p 1)) p ≡ refused c → ⊥
   by_code_lem zero h = by_check_lem (mandatory_check w (kind_of (octet p 1)) p) h

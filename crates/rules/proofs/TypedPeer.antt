@@ -10,7 +10,7 @@ use lib.ListN.{take}
 use Rattle.laws.specs.Lists.{All, is_empty}
 use Rattle.protocol.specs.declared.CaNumber.{CaNumber}
 use Rattle.protocol.specs.declared.Kind.TheVariants.{Ca, CsuRequest}
-use Rattle.protocol.specs.declared.Last.TheVariants.{At}
+use Rattle.std.specs.Prelude.{Some}
 use Rattle.protocol.specs.Sizes.{id_length, records_most}
 use Rattle.protocol.specs.Numbers.{next_ca, one_more}
 use Rattle.protocol.specs.Messages.{CsaRecord, summary_of, Body, ca, csu_request, csu_reply, csus, hello, Message}
@@ -97,7 +97,7 @@ module _ (s : Settings) (peer : List ℕ) (ts : GoodSettings s) (i : Id id_lengt
 
     ca_timer : (now : ℕ) (x : Slot) → SlotFor s peer x → SlotFor s peer (ca_sent now x)
     ca_timer now x g =
-        timers_kept s peer (record { hello = x.timers.hello; ca = At now; csus = x.timers.csus; update = x.timers.update }) x g
+        timers_kept s peer (record { hello = x.timers.hello; ca = Some now; csus = x.timers.csus; update = x.timers.update }) x g
 
     keeping_kept : (o : Sent) (now to : ℕ) (x : Slot) → GoodCa s peer o → SlotFor s peer x → SlotFor s peer (keeping o now to x)
     keeping_kept nothing now to x h g = g
@@ -225,18 +225,18 @@ module _ (s : Settings) (peer : List ℕ) (ts : GoodSettings s) (i : Id id_lengt
     due_slot_lem : (d : Due) (now k : ℕ) (x : Slot) → SlotFor s peer x → SlotFor s peer (due_slot d s now rows k x)
     due_slot_lem nothing_due now k x g = g
     due_slot_lem a_hello now k x g =
-        timers_kept s peer (record { hello = At now; ca = x.timers.ca; csus = x.timers.csus; update = x.timers.update }) x g
+        timers_kept s peer (record { hello = Some now; ca = x.timers.ca; csus = x.timers.csus; update = x.timers.update }) x g
     due_slot_lem first_ca now k x g =
         ca_timer now (with_kept (packet_of (first_ca_of s x)) x) (kept_kept s peer (packet_of (first_ca_of s x)) x (inr (first_ca_of s x, (refl, first_ca_lem x g))) g)
     due_slot_lem kept_ca now k x g = ca_timer now x g
     due_slot_lem a_csus now k x g =
-        timers_kept s peer (record { hello = x.timers.hello; ca = x.timers.ca; csus = At now; update = x.timers.update })
+        timers_kept s peer (record { hello = x.timers.hello; ca = x.timers.ca; csus = Some now; update = x.timers.update })
         (with_requests (rotated x.requests) x.missed x)
         (requests_kept s peer (rotated x.requests) x.missed x (rotated_good x.requests g.requests) g)
     due_slot_lem an_update now k x g =
         let n : ℕ = behind x.cursor (next_waiting rows k x.cursor) % rows_most in
         updates_kept s peer (one_more x.updates) (update_sent now (with_cursor n x))
-        (timers_kept s peer (record { hello = x.timers.hello; ca = x.timers.ca; csus = x.timers.csus; update = At now }) (with_cursor n x)
+        (timers_kept s peer (record { hello = x.timers.hello; ca = x.timers.ca; csus = x.timers.csus; update = Some now }) (with_cursor n x)
         (cursor_kept s peer n x g))
 
     pub poll_sent_lem : (now k : ℕ) (x : Slot) → SlotFor s peer x → GoodSent s peer (poll_sent s now rows k x)

@@ -16,7 +16,7 @@ use Rattle.laws.specs.Lists.{All}
 use Rattle.laws.specs.Tables.{on, has, find, change}
 use Rattle.protocol.specs.declared.CsaNumber.{CsaNumber}
 use Rattle.protocol.specs.declared.Kind.TheVariants.{CsuRequest}
-use Rattle.protocol.specs.declared.Step.TheVariants.{Number, Spent}
+use Rattle.std.specs.Prelude.{Some, None}
 use Rattle.protocol.specs.Sizes.{id_length, payload_most}
 use Rattle.protocol.specs.Numbers.{csa_number, purged, spent, newer, next_csa}
 use Rattle.protocol.specs.Messages.{CsaRecord}
@@ -71,12 +71,12 @@ next_not_purged (negsuc (suc b)) e h =
 
 stepped_good : (n : CsaNumber) → GoodNumber n → GoodNumber (stepped n (next_csa n))
 stepped_good n g = by (spent n) refl where
-  by : (b : Bool) → spent n ≡ b → GoodNumber (stepped n (pick b Spent (Number (csa_number (n.0 +ℤ pos 1)))))
+  by : (b : Bool) → spent n ≡ b → GoodNumber (stepped n (pick b None (Some (csa_number (n.0 +ℤ pos 1)))))
   by true e = g
   by false e = next_good n.0 g e
 
 stepped_not_purged : (n : CsaNumber) → spent n ≡ false → stepped n (next_csa n) ≡ purged → ⊥
-stepped_not_purged n e h = next_not_purged n.0 e (subst (λ (b : Bool). stepped n (pick b Spent (Number (csa_number (n.0 +ℤ pos 1)))) ≡ purged) e h)
+stepped_not_purged n e h = next_not_purged n.0 e (subst (λ (b : Bool). stepped n (pick b None (Some (csa_number (n.0 +ℤ pos 1)))) ≡ purged) e h)
 
 -- ---- a row
 on_false : (k : ℕ) (m : ℕ → Bool) (j : ℕ) → on k false m j ≡ true → m j ≡ true

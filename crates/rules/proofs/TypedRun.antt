@@ -14,7 +14,7 @@ use Rattle.laws.specs.Choice.{pick}
 use Rattle.laws.specs.Lists.{All}
 use Rattle.laws.specs.Tables.{has, same}
 use Rattle.protocol.specs.declared.HelloState.TheVariants.{Down as helloDown, Waiting}
-use Rattle.protocol.specs.declared.Last.TheVariants.{Never}
+use Rattle.std.specs.Prelude.{None}
 use Rattle.protocol.specs.Sizes.{id_length, key_most, payload_most}
 use Rattle.protocol.specs.Messages.{Message}
 use Rattle.protocol.specs.WellFormed.{Octets, WellFormed}
@@ -124,9 +124,9 @@ module _ (s : Server) where
         let l = up_move x.link in
         let g = moved_kept s.settings x.peer l x (up_good x.link (slot_here k).link) (slot_here k) in
         put k (up_slot x) (in_use s k ((link_codes s k now).0.code_0.0 (eqb-true (code_of s (link_up k now)) 0 c)).0)
-        (pick_of (SlotFor s.settings x.peer) (is_down x.link.hello) (hello_sent Never (moved l x)) x
+        (pick_of (SlotFor s.settings x.peer) (is_down x.link.hello) (hello_sent None (moved l x)) x
         (timers_kept s.settings x.peer
-        (record { hello = Never; ca = (moved l x).timers.ca; csus = (moved l x).timers.csus; update = (moved l x).timers.update }) (moved l x) g)
+        (record { hello = None; ca = (moved l x).timers.ca; csus = (moved l x).timers.csus; update = (moved l x).timers.update }) (moved l x) g)
         (slot_here k))
     slots_typed (link_down k now) t c =
         let x : Slot = slot_at s k in

@@ -22,7 +22,7 @@ use Rattle.laws.proofs.Tables.{on_here, on_other}
 use Rattle.protocol.specs.declared.Alignment.{Alignment}
 use Rattle.protocol.specs.declared.Alignment.TheVariants.{Down, Negotiate, Summarize, Update, Aligned}
 use Rattle.protocol.specs.declared.Link.{Link}
-use Rattle.protocol.specs.declared.Last.TheVariants.{Never}
+use Rattle.std.specs.Prelude.{None}
 use Rattle.protocol.specs.Sizes.{id_length}
 use Rattle.protocol.specs.Numbers.{one_more}
 use Rattle.protocol.specs.Messages.{Message, Body, ca, csu_request, csu_reply, csus, hello}
@@ -250,7 +250,7 @@ module _ (s : Server) (n : ℕ → ℕ) (same : (k : ℕ) → (slot_at s k).upda
   counted kept (link_up k now) h j =
       let x = slot_at s k in
       let y = slot_after (link_up k now) s.settings (live_in s.slots) s.rows x in
-      let g = pick_of (Counts x) (is_down x.link.hello) (hello_sent Never (moved (up_move x.link) x)) x (counts_moved (up_move x.link) x)
+      let g = pick_of (Counts x) (is_down x.link.hello) (hello_sent None (moved (up_move x.link) x)) x (counts_moved (up_move x.link) x)
       (counts_still x) in
       set_counts k (since k y) y (quiet_counts k y (link_in_use s k now (eqb-true _ 0 h)) g) j
   counted kept (link_down k now) h j =

@@ -4,7 +4,7 @@ use Rattle.std.specs.Prelude.{ℕ, Bool, true, false, ◌&&◌, ◌||◌, List, 
 use Rattle.std.proofs.Math.ListN as lists
 use Rattle.laws.specs.Choice.{pick}
 use Rattle.protocol.specs.declared.Alignment.{Alignment}
-use Rattle.protocol.specs.declared.Last.TheVariants.{Never}
+use Rattle.std.specs.Prelude.{None}
 use Rattle.protocol.specs.Sizes.{id_length}
 use Rattle.protocol.specs.Messages.{Body, ca, csu_request, csu_reply, csus, hello}
 use Rattle.protocol.specs.Reading.{Reading, refused, malformed, message, read_packet}
@@ -90,7 +90,7 @@ peer_slot id = record {
 
 -- 'none since link up' starts anew when link up leaves Down
 abbrev pub up_slot : Slot → Slot
-up_slot x = pick (is_down x.link.hello) (hello_sent Never (moved (up_move x.link) x)) x
+up_slot x = pick (is_down x.link.hello) (hello_sent None (moved (up_move x.link) x)) x
 
 abbrev pub down_slot : Slot → Slot
 down_slot x = moved (down_move x.link) x

@@ -8,7 +8,7 @@ use Rattle.protocol.specs.declared.CaFlags.{CaFlags}
 use Rattle.protocol.specs.declared.Role.TheVariants.{Master, Slave}
 use Rattle.protocol.specs.declared.Alignment.{Alignment}
 use Rattle.protocol.specs.declared.Alignment.TheVariants.{Down, Negotiate, Summarize, Update, Aligned}
-use Rattle.protocol.specs.declared.Last.TheVariants.{At}
+use Rattle.std.specs.Prelude.{Some}
 use Rattle.protocol.specs.Messages.{CsaRecord, Message, ca, csu_request, csus, hello}
 use Rattle.protocol.specs.Layouts.{packet_of}
 use Rattle.rules.specs.Server.{Settings, rows_most, Entry, Value, Row, waits_for, Request, Slot}
@@ -104,7 +104,7 @@ due_sent an_update s rows k x = new_packet (update_of s rows k x)
 -- ---- the slot
 abbrev pub due_slot : Due → Settings → ℕ → List Row → ℕ → Slot → Slot
 due_slot nothing_due s now rows k x = x
-due_slot a_hello s now rows k x = hello_sent (At now) x
+due_slot a_hello s now rows k x = hello_sent (Some now) x
 due_slot first_ca s now rows k x = ca_sent now (with_kept (packet_of (first_ca_of s x)) x)
 due_slot kept_ca s now rows k x = ca_sent now x
 due_slot a_csus s now rows k x = csus_sent now (with_requests (rotated x.requests) x.missed x)

@@ -6,7 +6,7 @@ use Rattle.laws.specs.Tables.{same, count}
 use Rattle.protocol.specs.declared.CsaNumber.{CsaNumber}
 use Rattle.protocol.specs.declared.Link.{Link}
 use Rattle.protocol.specs.declared.Timers.{Timers}
-use Rattle.protocol.specs.declared.Last.TheVariants.{Never}
+use Rattle.std.specs.Prelude.{None}
 use Rattle.protocol.specs.declared.Role.TheVariants.{Master}
 use Rattle.protocol.specs.declared.HelloState.TheVariants.{Down}
 use Rattle.protocol.specs.declared.Alignment.TheVariants.{Down as alignmentDown}
@@ -94,7 +94,7 @@ fresh_link = record {
 }
 
 abbrev pub no_timers : Timers
-no_timers = record { hello = Never; ca = Never; csus = Never; update = Never }
+no_timers = record { hello = None; ca = None; csus = None; update = None }
 
 abbrev pub fresh_slot : Slot
 fresh_slot = record {

@@ -8,8 +8,8 @@ use Rattle.laws.specs.Lists.{is_empty}
 use Rattle.protocol.specs.declared.Role.TheVariants.{Master, Slave}
 use Rattle.protocol.specs.declared.Alignment.{Alignment}
 use Rattle.protocol.specs.declared.Alignment.TheVariants.{Down, Negotiate, Summarize, Update, Aligned}
-use Rattle.protocol.specs.declared.Last.{Last}
-use Rattle.protocol.specs.declared.Last.TheVariants.{Never, At}
+use Rattle.std.specs.Prelude.{Option}
+use Rattle.std.specs.Prelude.{None, Some}
 use Rattle.protocol.specs.declared.Link.{Link}
 use Rattle.protocol.specs.Sizes.{id_length}
 use Rattle.protocol.specs.Fields.{octet}
@@ -26,10 +26,10 @@ use Rattle.rules.specs.Events.{Event, add_peer, link_up, link_down, packet, poll
 pub record SlotHistory : Type 0 where
   pub link : Link
   pub kept : Bool
-  pub sent : Last
+  pub sent : Option ℕ
 
 abbrev pub unused_slot : SlotHistory
-unused_slot = record { link = fresh_link; kept = false; sent = Never }
+unused_slot = record { link = fresh_link; kept = false; sent = None }
 
 -- ---- the machines, 'our CAs as written': the O bit of a CA
 abbrev pub more_in : List ℕ → Bool
@@ -88,7 +88,7 @@ reads_csus (malformed at) = false
 reads_csus (message m) = is_csus m.body
 
 -- 'the slave at a CSUS or, past Summarize, at a poll 5 seconds after it was last sent'; the master has none there
-abbrev pub drops_at : Event → Alignment → Last → Bool
+abbrev pub drops_at : Event → Alignment → Option ℕ → Bool
 drops_at (add_peer k id) a sent = false
 drops_at (link_up k now) a sent = false
 drops_at (link_down k now) a sent = false
@@ -99,8 +99,8 @@ drops_at (withdraw key) a sent = false
 drops_at (purge key) a sent = false
 
 -- 'Entering Down or Negotiate empties the slot's .. kept CA'; CAs are counted from there on
-abbrev pub sent_from : Alignment → Alignment → Last → Last
-sent_from before after sent = pick (enters before after) Never sent
+abbrev pub sent_from : Alignment → Alignment → Option ℕ → Option ℕ
+sent_from before after sent = pick (enters before after) None sent
 
 -- with no CA written, the link is l now
 abbrev pub quiet : Event → Link → SlotHistory → SlotHistory
@@ -137,7 +137,7 @@ time_of (purge key) = 0
 abbrev pub event_after : Event → Settings → List ℕ → SlotHistory → SlotHistory
 event_after e s written x =
     let l = link_after e s x.kept written x.link in
-    pick (is_ca written) (record { link = l; kept = true; sent = At (time_of e) }) (quiet e l x)
+    pick (is_ca written) (record { link = l; kept = true; sent = Some (time_of e) }) (quiet e l x)
 
 abbrev pub slot_history_after : Event → Settings → List ℕ → SlotHistory → SlotHistory
 slot_history_after (add_peer k id) s written x = unused_slot

@@ -5,8 +5,8 @@ use Rattle.laws.specs.Choice.{pick}
 use Rattle.laws.specs.Lists.{is_empty}
 use Rattle.protocol.specs.declared.Alignment.{Alignment}
 use Rattle.protocol.specs.declared.Alignment.TheVariants.{Down, Negotiate, Summarize, Update, Aligned}
-use Rattle.protocol.specs.declared.Last.{Last}
-use Rattle.protocol.specs.declared.Last.TheVariants.{Never, At}
+use Rattle.std.specs.Prelude.{Option}
+use Rattle.std.specs.Prelude.{None, Some}
 use Rattle.protocol.specs.declared.Link.{Link}
 use Rattle.protocol.specs.declared.Timers.{Timers}
 use Rattle.protocol.specs.Numbers.{one_more}
@@ -15,9 +15,9 @@ use Rattle.rules.specs.Server.{Settings, Request, Slot}
 use Rattle.rules.specs.Links.{with_alignment, enters}
 
 -- '"Passed" means at least'; none yet counts as passed
-abbrev pub passed : ℕ → Last → ℕ → Bool
-passed n Never now = true
-passed n (At then) now = leb n (now - then)
+abbrev pub passed : ℕ → Option ℕ → ℕ → Bool
+passed n None now = true
+passed n (Some then) now = leb n (now - then)
 
 -- a packet of ours to the slot's peer, in our group
 abbrev pub to_peer : Settings → Slot → Body → Message
@@ -123,17 +123,17 @@ with_updates n x = record {
 }
 
 -- ---- when packets were sent
-abbrev pub hello_sent : Last → Slot → Slot
+abbrev pub hello_sent : Option ℕ → Slot → Slot
 hello_sent t x = with_timers (record { hello = t; ca = x.timers.ca; csus = x.timers.csus; update = x.timers.update }) x
 
 abbrev pub ca_sent : ℕ → Slot → Slot
-ca_sent now x = with_timers (record { hello = x.timers.hello; ca = At now; csus = x.timers.csus; update = x.timers.update }) x
+ca_sent now x = with_timers (record { hello = x.timers.hello; ca = Some now; csus = x.timers.csus; update = x.timers.update }) x
 
 abbrev pub csus_sent : ℕ → Slot → Slot
-csus_sent now x = with_timers (record { hello = x.timers.hello; ca = x.timers.ca; csus = At now; update = x.timers.update }) x
+csus_sent now x = with_timers (record { hello = x.timers.hello; ca = x.timers.ca; csus = Some now; update = x.timers.update }) x
 
 abbrev pub update_sent : ℕ → Slot → Slot
-update_sent now x = with_timers (record { hello = x.timers.hello; ca = x.timers.ca; csus = x.timers.csus; update = At now }) x
+update_sent now x = with_timers (record { hello = x.timers.hello; ca = x.timers.ca; csus = x.timers.csus; update = Some now }) x
 
 -- one more update request written at a poll, 'up to 65535' (document 02, L1)
 abbrev pub update_counted : Slot → Slot
@@ -154,7 +154,7 @@ emptied x = record {
   used = x.used;
   peer = x.peer;
   link = x.link;
-  timers = record { hello = x.timers.hello; ca = Never; csus = Never; update = Never };
+  timers = record { hello = x.timers.hello; ca = None; csus = None; update = None };
   kept = [];
   listed = 0;
   cursor = 0;

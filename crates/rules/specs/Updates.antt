@@ -4,8 +4,8 @@ use Rattle.std.specs.Prelude.{ℕ, ◌-◌, Bool, true, false, List, [], ◌∷�
 use Rattle.laws.specs.Choice.{pick}
 use Rattle.laws.specs.Tables.{on, has, change}
 use Rattle.protocol.specs.declared.CsaNumber.{CsaNumber}
-use Rattle.protocol.specs.declared.Step.{Step}
-use Rattle.protocol.specs.declared.Step.TheVariants.{Number, Spent}
+use Rattle.std.specs.Prelude.{Option}
+use Rattle.std.specs.Prelude.{Some, None}
 use Rattle.protocol.specs.Numbers.{newer, next_csa, first_number, purged}
 use Rattle.protocol.specs.Messages.{CsaRecord}
 use Rattle.rules.specs.Server.{Entry, Value, Row, free, used, is_free, holds, Request}
@@ -20,9 +20,9 @@ abbrev pub value : CsaNumber → List ℕ → ℕ → Value
 value n p r = record { number = n; payload = p; remaining = r }
 
 -- ---- changes of ours: they wait for every live slot
-abbrev pub stepped : CsaNumber → Step → CsaNumber
-stepped n (Number m) = m
-stepped n Spent = n
+abbrev pub stepped : CsaNumber → Option CsaNumber → CsaNumber
+stepped n (Some m) = m
+stepped n None = n
 
 -- 'each change adds one and sets 16 again'
 abbrev pub changed_row : (ℕ → Bool) → List ℕ → Row → Row

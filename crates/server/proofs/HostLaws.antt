@@ -25,11 +25,12 @@ use Rattle.rules.proofs.WrittenPacket.{written_packet}
 use Rattle.rules.proofs.Main.{demand_3}
 use Rattle.slots.specs.declared.state.Settings.{Settings}
 use Rattle.slots.specs.declared.state.Server.{Server}
-use Rattle.slots.specs.Codes.{code_number}
+use Rattle.slots.specs.Codes.{code_number, written_of}
 use Rattle.slots.specs.State.{settings_of}
 use Rattle.server.specs.declared.answers.Answer.{Answer}
 use Rattle.server.specs.State.{server_of, StepsOut, Does, DoesOut}
 use Rattle.server.specs.Hosts.{uses_out, seen, Hosted, started, called, wrote, HostHolds}
+use Rattle.slots.specs.declared.state.Slot.{Slot}
 
 -- ---- one more event
 run_more : (s : rules.Server) (es : List Event) (e : Event) → run s (es ++ (e ∷ [])) ≡ step (run s es) e
@@ -63,30 +64,30 @@ take_none : (n : ℕ) → take {A = ℕ} n [] ≡ []
 take_none zero = refl
 take_none (suc n) = refl
 
-seen_out : {e : Event} {s : Server} {slots slots' before after out out' : List ℕ} {r : Answer} → StepsOut e s slots slots' before after out out' r
-    → take r.written out' ≡ written_at (server_of s slots before) e
+seen_out : {e : Event} {s : Server} {slots slots' : List Slot} {before after out out' : List ℕ} {r : Answer} → StepsOut e s slots slots' before after out out' r
+    → take (written_of r.outcome) out' ≡ written_at (server_of s slots before) e
 seen_out {e} {s} {slots} {slots'} {before} {after} {out} {out'} {r} d =
-    ap (take r.written) d.octets ∙ take_written (written_at (server_of s slots before) e) out r.written d.steps.size
+    ap (take (written_of r.outcome)) d.octets ∙ take_written (written_at (server_of s slots before) e) out (written_of r.outcome) d.steps.size
 
 item_of_lem : (x : rules.Server) (e : Event) (c : ℕ) (w : List ℕ) → c ≡ code_of x e → w ≡ written_at x e
     → record { event = e; code = c; written = w } ≡ item_of x e
 item_of_lem x e c w p q = λ i. record { event = e; code = p i; written = q i }
 
 -- so a call is one more item
-pub hosted_call : {c : Settings} {s : Server} {slots slots' before after : List ℕ} {is : List Item} {e : Event} {r : Answer}
+pub hosted_call : {c : Settings} {s : Server} {slots slots' : List Slot} {before after : List ℕ} {is : List Item} {e : Event} {r : Answer}
     → Hosted c s slots before is → uses_out e ≡ false → Does e s slots slots' before after r
     → Hosted c r.server slots' after (is ++ (item_of (server_of s slots before) e ∷ []))
 hosted_call {c} {s} {slots} {slots'} {before} {after} {is} {e} {r} h u d =
     subst (λ (i : Item). Hosted c r.server slots' after (is ++ (i ∷ [])))
-    (item_of_lem (server_of s slots before) e (code_number r.outcome) (take r.written []) d.steps.code
-    (take_none r.written ∙ sym (silent (server_of s slots before) e u))) (called h u d)
+    (item_of_lem (server_of s slots before) e (code_number r.outcome) (take (written_of r.outcome) []) d.steps.code
+    (take_none (written_of r.outcome) ∙ sym (silent (server_of s slots before) e u))) (called h u d)
 
-pub hosted_out : {c : Settings} {s : Server} {slots slots' before after out out' : List ℕ} {is : List Item} {e : Event} {r : Answer}
+pub hosted_out : {c : Settings} {s : Server} {slots slots' : List Slot} {before after out out' : List ℕ} {is : List Item} {e : Event} {r : Answer}
     → Hosted c s slots before is → DoesOut e s slots slots' before after out out' r
     → Hosted c r.server slots' after (is ++ (item_of (server_of s slots before) e ∷ []))
 hosted_out {c} {s} {slots} {slots'} {before} {after} {out} {out'} {is} {e} {r} h d =
     subst (λ (i : Item). Hosted c r.server slots' after (is ++ (i ∷ [])))
-    (item_of_lem (server_of s slots before) e (code_number r.outcome) (take r.written out') d.steps.steps.code (seen_out d.steps)) (wrote h d)
+    (item_of_lem (server_of s slots before) e (code_number r.outcome) (take (written_of r.outcome) out') d.steps.steps.code (seen_out d.steps)) (wrote h d)
 
 -- ---- a host's calls are a list of events
 record Told (c : Settings) (s : rules.Server) (is : List Item) : Type 0 where
@@ -108,17 +109,17 @@ more c s s' is e i t u p q = record {
   saw = (λ j. t.saw j ++ ((q ∙ ap (λ x. item_of x e) t.server) j ∷ [])) ∙ sym (items_more (fresh (settings_of c)) t.events e);
 }
 
-told : {c : Settings} {s : Server} {slots memory : List ℕ} {is : List Item} → Hosted c s slots memory is → Told c (server_of s slots memory) is
+told : {c : Settings} {s : Server} {slots : List Slot} {memory : List ℕ} {is : List Item} → Hosted c s slots memory is → Told c (server_of s slots memory) is
 told {c} (started {r = r} d t) =
     let z : settings_code (settings_of c) ≡ 0 = sym d.code ∙ t in
     record { accepted = z; settings = d.typed; events = []; typed = tt; server = d.server z; saw = refl }
 told {c} (called {s} {slots} {slots'} {before} {after} {is} {e} {r} h u d) =
     more c (server_of s slots before) (server_of r.server slots' after) is e (seen e r []) (told h) d.typed d.steps.server
-    (item_of_lem (server_of s slots before) e (code_number r.outcome) (take r.written []) d.steps.code
-    (take_none r.written ∙ sym (silent (server_of s slots before) e u)))
+    (item_of_lem (server_of s slots before) e (code_number r.outcome) (take (written_of r.outcome) []) d.steps.code
+    (take_none (written_of r.outcome) ∙ sym (silent (server_of s slots before) e u)))
 told {c} (wrote {s} {slots} {slots'} {before} {after} {out} {out'} {is} {e} {r} h d) =
     more c (server_of s slots before) (server_of r.server slots' after) is e (seen e r out') (told h) d.typed d.steps.steps.server
-    (item_of_lem (server_of s slots before) e (code_number r.outcome) (take r.written out') d.steps.steps.code (seen_out d.steps))
+    (item_of_lem (server_of s slots before) e (code_number r.outcome) (take (written_of r.outcome) out') d.steps.steps.code (seen_out d.steps))
 
 -- ---- so it holds what is claimed
 told_typed : {c : Settings} {s : rules.Server} {is : List Item} → Told c s is → TypedServer s
@@ -132,7 +133,7 @@ told_demand c s is t =
     (subst (λ (js : List Item). Demand3 (settings_of c) (run (fresh (settings_of c)) t.events) (history (settings_of c) js)) (sym t.saw)
     (demand_3 (settings_of c) t.accepted t.events))
 
-pub host_holds : {c : Settings} {s : Server} {slots memory : List ℕ} {is : List Item} → Hosted c s slots memory is → HostHolds c s slots memory is
+pub host_holds : {c : Settings} {s : Server} {slots : List Slot} {memory : List ℕ} {is : List Item} → Hosted c s slots memory is → HostHolds c s slots memory is
 host_holds {c} {s} {slots} {memory} {is} h =
     let t = told h in
     record {

@@ -1,14 +1,14 @@
 -- Settings taken and peers added: a fresh server, the code of adding a peer, and what is left of its slot.
 -- Assumes nothing.
 use Prim.Native.Nat.{ℕ, ◌+◌, ◌≤◌, ◌<◌}
-use mathlib.Core.Path.{◌≡◌, refl, sym, ap, ◌∙◌}
+use mathlib.Core.Path.{◌≡◌, sym, ap, ◌∙◌}
 use mathlib.Core.Bool.{Bool, true, false, ◌&&◌, ◌||◌}
 use mathlib.Core.List.{List, []}
 use native.Mathlib.Numerals.{add-one}
 use native.Mathlib.Omega.{arith}
 use lib.ListN.{length, drop, replicate, drop_of_length-le}
 use lib.Seq.{drop-cons}
-use borrow.Author.Tests.{lt-ltb, le-ltb, eq-eqb, ne_eqb}
+use borrow.Author.Tests.{lt-ltb, eq-eqb, ne_eqb}
 use Rattle.laws.specs.Choice.{pick}
 use Rattle.laws.specs.Lists.{table}
 use Rattle.laws.specs.Tables.{has, same}
@@ -21,11 +21,10 @@ use Rattle.records.proofs.MemoryLaws.{memory_rows}
 use Rattle.slots.specs.declared.state.Settings.{Settings}
 use Rattle.slots.specs.declared.state.Slot.{Slot}
 use Rattle.slots.specs.declared.state.Server.{Server}
-use Rattle.slots.specs.declared.answers.Failure.TheVariants.{Size}
-use Rattle.slots.specs.declared.answers.Outcome.TheVariants.{Taken, Refused}
-use Rattle.slots.specs.Codes.{code_number}
+use Rattle.std.specs.Prelude.{Ok}
+use Rattle.slots.specs.Codes.{code_number, written_of}
 use Rattle.slots.specs.State.{settings_of, slot_of}
-use Rattle.table.specs.Words.{slot_from, slot_in}
+use Rattle.table.specs.Slots.{unused, slot_in}
 use Rattle.actions.specs.Parts.{Leaves}
 use Rattle.actions.proofs.PartLaws.{left_rows}
 use Rattle.server.specs.declared.answers.Answer.{Answer}
@@ -34,11 +33,11 @@ use Rattle.server.proofs.ServerLaws.{slots_eight, slot_get, IsPut, slots_put, sl
 use Rattle.server.proofs.CodeLaws.{used_is}
 
 -- ---- a fresh server
-fresh_slots : (slots m : List ℕ) → ((k : ℕ) → slot_in slots k ≡ slot_from (λ _. 0)) → memory_of m ≡ fresh_memory → slots_of slots m ≡ replicate 8 fresh_slot
+fresh_slots : (slots : List Slot) (m : List ℕ) → ((k : ℕ) → slot_in slots k ≡ unused) → memory_of m ≡ fresh_memory → slots_of slots m ≡ replicate 8 fresh_slot
 unfolding slots_of
 fresh_slots slots m e f = λ z. table (λ j. slot_of (e j z) (requests_of (f z) j) (kept_of (f z) j)) 8 0
 
-pub fresh_server : (s : Settings) (slots m : List ℕ) → ((k : ℕ) → slot_in slots k ≡ slot_from (λ _. 0)) → memory_of m ≡ fresh_memory
+pub fresh_server : (s : Settings) (slots : List Slot) (m : List ℕ) → ((k : ℕ) → slot_in slots k ≡ unused) → memory_of m ≡ fresh_memory
     → server_of (record { settings = s; time = 0 }) slots m ≡ fresh (settings_of s)
 fresh_server s slots m e f = λ z. record {
   settings = settings_of s;
@@ -49,40 +48,23 @@ fresh_server s slots m e f = λ z. record {
 
 -- ---- settings, accepted or not
 module _ (s : Settings) (n : length s.id ≡ 4) where
-  pub no_interval : s.interval ≡ 0 → settings_code (settings_of s) ≡ 17
-  no_interval e = rw (eq-eqb (length s.id) 4 n, eq-eqb s.interval 0 e)
-
-  pub no_factor : (s.interval ≡ 0 → ⊥) → s.factor ≡ 0 → settings_code (settings_of s) ≡ 17
-  no_factor d e = rw (eq-eqb (length s.id) 4 n, ne_eqb s.interval 0 d, eq-eqb s.factor 0 e)
-
   pub both_set : (s.interval ≡ 0 → ⊥) → (s.factor ≡ 0 → ⊥) → settings_code (settings_of s) ≡ 0
   both_set d e = rw (eq-eqb (length s.id) 4 n, ne_eqb s.interval 0 d, ne_eqb s.factor 0 e)
 
 module _ (s : Settings) (v : Server) (r : Answer) where
-  pub starts_not : (slots m : List ℕ) → TypedSettings (settings_of s) → settings_code (settings_of s) ≡ 17 → r
-      ≡ record { server = v; outcome = Refused Size; written = 0 }
-      → Starts s slots slots m m r
-  starts_not slots m t c a = record {
-    code = ap (λ (x : Answer). code_number x.outcome) a ∙ sym c;
-    server = λ z. absurd (omega (arith, c, z));
-    size = ap (λ (x : Answer). x.written) a;
-    same = λ _. (refl, refl);
-    typed = t;
-  }
-
-  pub starts_so : (slots slots' before after : List ℕ) → TypedSettings (settings_of s) → settings_code (settings_of s) ≡ 0 → server_of v slots' after
+  pub starts_so : (slots slots' : List Slot) (before after : List ℕ) → TypedSettings (settings_of s) → settings_code (settings_of s) ≡ 0 → server_of v slots' after
       ≡ fresh (settings_of s)
-      → r ≡ record { server = v; outcome = Taken; written = 0 } → Starts s slots slots' before after r
+      → r ≡ record { server = v; outcome = Ok 0 } → Starts s slots slots' before after r
   starts_so slots slots' before after t c f a = record {
     code = ap (λ (x : Answer). code_number x.outcome) a ∙ sym c;
     server = λ _. ap (λ (x : Answer). server_of x.server slots' after) a ∙ f;
-    size = ap (λ (x : Answer). x.written) a;
+    size = ap (λ (x : Answer). written_of x.outcome) a;
     same = λ z. absurd (z c);
     typed = t;
   }
 
 -- ---- a peer looked for, slot by slot
-module _ (slots id : List ℕ) where
+module _ (slots : List Slot) (id : List ℕ) where
   abbrev peer_at : ℕ → Bool
   peer_at k = (slot_in slots k).used && same (slot_in slots k).peer id
 
@@ -110,12 +92,9 @@ module _ (slots id : List ℕ) where
       sym (e m ∙ ap (has (is_peer id)) (drop_of_length-le (slots_of slots m) l))
 
 -- ---- the code of adding a peer
-module _ (s : Server) (slots : List ℕ) (k : ℕ) (id m : List ℕ) where
+module _ (s : Server) (slots : List Slot) (k : ℕ) (id m : List ℕ) where
   abbrev add_code : ℕ
   add_code = add_peer_code (server_of s slots m) k id
-
-  pub add_above : 8 ≤ k → 1 ≡ add_code
-  add_above h = rw (le-ltb k 8 h)
 
   module _ (h : k < 8) where
     pub add_size : (length id ≡ 4 → ⊥) → 17 ≡ add_code
@@ -133,7 +112,7 @@ module _ (s : Server) (slots : List ℕ) (k : ℕ) (id m : List ℕ) where
         add_tried b o e = rw (lt-ltb k 8 h, eq-eqb (length id) 4 n, used_is s slots k m h u, o, e)
 
 -- ---- the slot: no requests and no kept CA, the rows as they were
-pub adds : (s : Server) (slots slots' : List ℕ) (k : ℕ) (id a : List ℕ) (y : Slot) (before after : List ℕ) → k < 8 → a ≡ id → slot_of y [] [] ≡ peer_slot a
+pub adds : (s : Server) (slots slots' : List Slot) (k : ℕ) (id a : List ℕ) (y : Slot) (before after : List ℕ) → k < 8 → a ≡ id → slot_of y [] [] ≡ peer_slot a
     → IsPut k y slots slots'
     → memory_of after ≡ kept_put k [] (requests_put k [] (memory_of before)) → server_of s slots' after ≡ acted (server_of s slots before) (add_peer k id)
 unfolding acted

@@ -1,7 +1,7 @@
 -- A slot and a row at any index, as a host sees them.
 -- Assumes nothing.
 use Prim.Native.Nat.{ℕ, ◌^◌, ◌≤◌, ◌<◌}
-use mathlib.Core.Path.{◌≡◌, refl, sym, ap, ◌∙◌}
+use mathlib.Core.Path.{◌≡◌, refl, sym, ap, ◌∙◌, subst}
 use mathlib.Core.Bool.{Bool, true, false, not, ◌||◌, false≢true}
 use mathlib.Core.List.{List, []}
 use native.Mathlib.Omega.{arith}
@@ -22,18 +22,20 @@ use Rattle.memory.proofs.Rooms.{requests_of_lem}
 use Rattle.slots.specs.declared.state.Slot.{Slot}
 use Rattle.slots.specs.declared.state.Server.{Server}
 use Rattle.slots.specs.State.{slot_of}
-use Rattle.table.specs.Words.{slot_in}
+use Rattle.table.specs.Slots.{slot_in}
 use Rattle.actions.specs.Parts.{slot_now, slot_with}
 use Rattle.server.specs.State.{slots_of, server_of}
 use Rattle.server.specs.Queries.{refused, shown, slot_report, report_by, report_of}
 use Rattle.server.proofs.ServerLaws.{slots_eight, slot_of_lem}
+use Rattle.server.proofs.CodeLaws.{SlotIndex}
+use Rattle.protocol.specs.declared.Index.{Index}
 
 -- ---- a slot
 -- x with the slot's lists is the slot
 abbrev Shows : Slot → rules.Slot → Type 0
 Shows x y = slot_of x y.requests y.kept ≡ y
 
-module _ (s : Server) (slots m : List ℕ) (k : ℕ) where
+module _ (s : Server) (slots : List Slot) (m : List ℕ) (k : ℕ) where
   slot_above_lem : 8 ≤ k → slot_at (server_of s slots m) k ≡ fresh_slot
   slot_above_lem h =
       let n : length (slots_of slots m) ≡ 8 = slots_eight slots m in
@@ -42,8 +44,8 @@ module _ (s : Server) (slots m : List ℕ) (k : ℕ) where
   shows : (x : Slot) (y : rules.Slot) → slot_at (server_of s slots m) k ≡ y → Shows x y → Shows x (slot_at (server_of s slots m) k)
   shows x y e f = ap (λ (z : rules.Slot). slot_of x z.requests z.kept) e ∙ f ∙ sym e
 
-  pub shows_slot : (x : Slot) → k < 8 → x ≡ slot_in slots k → Shows x (slot_at (server_of s slots m) k)
-  shows_slot x h e = shows x (slot_now slots k m) (slot_of_lem s slots m k h) (ap (λ (z : Slot). slot_with z k m) e)
+  shows_below : (x : Slot) → k < 8 → x ≡ slot_in slots k → Shows x (slot_at (server_of s slots m) k)
+  shows_below x h e = shows x (slot_now slots k m) (slot_of_lem s slots m k h) (ap (λ (z : Slot). slot_with z k m) e)
 
   pub shows_fresh : (x : Slot) → 8 ≤ k → slot_of x [] [] ≡ fresh_slot → Shows x (slot_at (server_of s slots m) k)
   shows_fresh x h e = shows x fresh_slot (slot_above_lem h) e
@@ -67,11 +69,19 @@ module _ (s : Server) (slots m : List ℕ) (k : ℕ) where
       let v : (slot_at (server_of s slots m) k).used ≡ true = used_as x h ∙ u in
       ap slot_report h ∙ (λ i. report_by (pick (not (sym (below_eight (ltb k 8) refl v) i) || not (sym v i)) 1 0) (slot_at (server_of s slots m) k))
 
-  pub requests_below : (n : ℕ) → k < 8 → n ≡ length (requests_in m k) → n ≡ length (slot_at (server_of s slots m) k).requests
-  requests_below n h e = e ∙ ap length (sym (ap (λ (x : rules.Slot). x.requests) (slot_of_lem s slots m k h) ∙ requests_of_lem m k h))
+  requests_at : (n : ℕ) → k < 8 → n ≡ length (requests_in m k) → n ≡ length (slot_at (server_of s slots m) k).requests
+  requests_at n h e = e ∙ ap length (sym (ap (λ (x : rules.Slot). x.requests) (slot_of_lem s slots m k h) ∙ requests_of_lem m k h))
 
   pub requests_above : 8 ≤ k → 0 ≡ length (slot_at (server_of s slots m) k).requests
   requests_above h = sym (ap (λ (x : rules.Slot). length x.requests) (slot_above_lem h))
+
+-- by the slot's index
+module _ (s : Server) (slots : List Slot) (m : List ℕ) (k : SlotIndex) (slot : ℕ) (q : k.at ≡ slot) where
+  pub shows_slot : (x : Slot) → x ≡ slot_in slots k.at → Shows x (slot_at (server_of s slots m) slot)
+  shows_slot x e = subst (λ (j : ℕ). Shows x (slot_at (server_of s slots m) j)) q (shows_below s slots m k.at x k.below e)
+
+  pub requests_below : (n : ℕ) → n ≡ length (requests_in m k.at) → n ≡ length (slot_at (server_of s slots m) slot).requests
+  requests_below n e = requests_at s slots m k.at n k.below e ∙ ap (λ (j : ℕ). length (slot_at (server_of s slots m) j).requests) q
 
 -- ---- a row
 module _ (s : List ℕ) (i : ℕ) where
@@ -80,7 +90,7 @@ module _ (s : List ℕ) (i : ℕ) where
       let n : length (rows_in s) ≡ 64 = rows_length s in
       get_or-eq_default (rows_in s) free {n = i} (omega arith)
 
-  pub used_below : (b : Bool) → i < 64 → b ≡ is_used (row_in s i) → b ≡ is_used (row_at (rows_in s) i)
+  used_below : (b : Bool) → i < 64 → b ≡ is_used (row_in s i) → b ≡ is_used (row_at (rows_in s) i)
   used_below b h e = e ∙ ap is_used (sym (row_get s i h))
 
   pub used_above : 64 ≤ i → false ≡ is_used (row_at (rows_in s) i)
@@ -91,10 +101,10 @@ module _ (s : List ℕ) (i : ℕ) where
   below_by true e u = ltb-true i 64 e
   below_by false e u = absurd (false≢true (used_above (ltb-false i 64 e) ∙ u))
 
-  pub is_below : (b : Bool) → b ≡ is_used (row_at (rows_in s) i) → b ≡ true → i < 64
+  is_below : (b : Bool) → b ≡ is_used (row_at (rows_in s) i) → b ≡ true → i < 64
   is_below b e t = below_by (ltb i 64) refl (sym e ∙ t)
 
-  pub row_used : (b : Bool) → b ≡ is_used (row_at (rows_in s) i) → b ≡ true → used_row s i ≡ row_at (rows_in s) i
+  row_used : (b : Bool) → b ≡ is_used (row_at (rows_in s) i) → b ≡ true → used_row s i ≡ row_at (rows_in s) i
   row_used b e t =
       let at : row_at (rows_in s) i ≡ row_in s i = row_get s i (is_below b e t) in
       sym (at ∙ used_row_lem s i (sym (ap is_used at) ∙ sym e ∙ t))
@@ -103,8 +113,12 @@ module _ (s : List ℕ) (i : ℕ) where
   free_by free h = refl
   free_by (rules.used e v m) h = absurd (false≢true (sym h))
 
-  pub row_free : (b : Bool) → b ≡ is_used (row_at (rows_in s) i) → b ≡ false → free ≡ row_at (rows_in s) i
-  row_free b e t = free_by (row_at (rows_in s) i) (sym e ∙ t)
+  -- by its index
+  pub used_at : (j : Index 64) → j.at ≡ i → (b : Bool) → b ≡ is_used (row_in s j.at) → b ≡ is_used (row_at (rows_in s) i)
+  used_at j q b e = used_below b (omega (arith, j.below, q)) (e ∙ ap (λ (n : ℕ). is_used (row_in s n)) q)
+
+  pub row_shown : (j : Index 64) → j.at ≡ i → true ≡ is_used (row_at (rows_in s) i) → used_row s j.at ≡ row_at (rows_in s) i
+  row_shown j q e = ap (λ (n : ℕ). used_row s n) q ∙ row_used true e refl
 
   -- no mark above bit 7 of an octet
   unmarked : (k n : ℕ) (b : Bool) → 8 ≤ k → n < 256 → is_marked n k ≡ b → false ≡ b

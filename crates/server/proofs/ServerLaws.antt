@@ -26,29 +26,29 @@ use Rattle.records.proofs.MemoryLaws.{rows_are}
 use Rattle.slots.specs.declared.state.Slot.{Slot}
 use Rattle.slots.specs.declared.state.Server.{Server}
 use Rattle.slots.specs.State.{settings_of, slot_of}
-use Rattle.table.specs.Words.{slot_in}
+use Rattle.table.specs.Slots.{slot_in}
 use Rattle.actions.specs.Parts.{slot_now, slot_with, Leaves}
 use Rattle.actions.proofs.PartLaws.{left_rows, left_slot}
 use Rattle.server.specs.State.{slots_of, server_of, ended, sweeps_at, Closes}
 
 -- ---- the slots
-pub slots_eight : (slots : List ℕ) (m : List ℕ) → length (slots_of slots m) ≡ 8
+pub slots_eight : (slots : List Slot) (m : List ℕ) → length (slots_of slots m) ≡ 8
 unfolding slots_of
 slots_eight slots m = table_length (λ k. slot_with (slot_in slots k) k m) 8 0
 
-pub slot_get : (slots : List ℕ) (m : List ℕ) (k : ℕ) → k < 8 → get_or (slots_of slots m) k fresh_slot ≡ slot_with (slot_in slots k) k m
+pub slot_get : (slots : List Slot) (m : List ℕ) (k : ℕ) → k < 8 → get_or (slots_of slots m) k fresh_slot ≡ slot_with (slot_in slots k) k m
 unfolding slots_of
 slot_get slots m k h = table_get (λ j. slot_with (slot_in slots j) j m) 8 k fresh_slot h
 
-pub slot_of_lem : (s : Server) (slots m : List ℕ) (k : ℕ) → k < 8 → slot_at (server_of s slots m) k ≡ slot_now slots k m
+pub slot_of_lem : (s : Server) (slots : List Slot) (m : List ℕ) (k : ℕ) → k < 8 → slot_at (server_of s slots m) k ≡ slot_now slots k m
 slot_of_lem s slots m k h = slot_get slots m k h
 
 -- the table with x put in slot k
-abbrev pub IsPut : ℕ → Slot → List ℕ → List ℕ → Type 0
+abbrev pub IsPut : ℕ → Slot → List Slot → List Slot → Type 0
 IsPut k x slots slots' = (j : ℕ) → slot_in slots' j ≡ on k x (slot_in slots) j
 
 -- slot k put, with its part of the memory
-pub slots_put : (slots slots' m : List ℕ) (k : ℕ) (x : Slot) → k < 8 → IsPut k x slots slots'
+pub slots_put : (slots slots' : List Slot) (m : List ℕ) (k : ℕ) (x : Slot) → k < 8 → IsPut k x slots slots'
     → slots_of slots' m ≡ lists.set (slots_of slots m) k (slot_with x k m)
 unfolding slots_of
 slots_put slots slots' m k x h p =
@@ -57,7 +57,7 @@ slots_put slots slots' m k x h p =
     ∙ ap (λ (y : Slot). lists.set (slots_of slots m) k (slot_with y k m)) (p k ∙ ap (λ (b : Bool). pick b x (slot_in slots k)) (eq-eqb k k refl))
 
 -- the memory is another, with the same parts of each slot
-pub slots_same : (slots : List ℕ) (a b : List ℕ) → (memory_of b).requests ≡ (memory_of a).requests → (memory_of b).kept ≡ (memory_of a).kept
+pub slots_same : (slots : List Slot) (a b : List ℕ) → (memory_of b).requests ≡ (memory_of a).requests → (memory_of b).kept ≡ (memory_of a).kept
     → slots_of slots b ≡ slots_of slots a
 unfolding slots_of
 slots_same slots a b e f =
@@ -65,13 +65,13 @@ slots_same slots a b e f =
     (λ j h z. slot_of (slot_in slots j) (get_or (e z) j []) (get_or (f z) j []))
 
 -- a table that differs in slot k alone
-pub is_put : (k : ℕ) (slots slots' : List ℕ) → ((j : ℕ) → (j ≡ k → ⊥) → slot_in slots' j ≡ slot_in slots j) → IsPut k (slot_in slots' k) slots slots'
+pub is_put : (k : ℕ) (slots slots' : List Slot) → ((j : ℕ) → (j ≡ k → ⊥) → slot_in slots' j ≡ slot_in slots j) → IsPut k (slot_in slots' k) slots slots'
 is_put k slots slots' o j =
     picked (λ (z : Slot). slot_in slots' j ≡ z) (eqb j k) (slot_in slots' k) (slot_in slots j) (λ e. ap (slot_in slots') (eqb-true j k e))
     (λ f. o j (eqb-false j k f))
 
 -- the end of an event: the rows may be swept
-pub ends : (sweep : Bool) (s : Server) (slots slots' before after : List ℕ) (k now : ℕ) (x : Slot) → k < 8 → IsPut k x slots slots'
+pub ends : (sweep : Bool) (s : Server) (slots slots' : List Slot) (before after : List ℕ) (k now : ℕ) (x : Slot) → k < 8 → IsPut k x slots slots'
     → memory_of after ≡ with_rows (swept_if sweep (rows_in before)) (memory_of before)
     → server_of (record { settings = s.settings; time = now }) slots' after ≡ ended sweep k now (slot_with x k before) (server_of s slots before)
 ends sweep s slots slots' before after k now x h p e =
@@ -87,7 +87,7 @@ ends sweep s slots slots' before after k now x h p e =
       rows = rows_are before after (swept_if sweep (rows_in before)) e z;
     }
 
-pub closed : (changes sweep : Bool) (from : Alignment) (s : Server) (slots before after : List ℕ) (k now : ℕ) → k < 8
+pub closed : (changes sweep : Bool) (from : Alignment) (s : Server) (slots : List Slot) (before after : List ℕ) (k now : ℕ) → k < 8
     → sweep ≡ (changes || enters from (slot_in slots k).link.alignment) → memory_of after ≡ with_rows (swept_if sweep (rows_in before)) (memory_of before)
     → Closes changes from s slots k now before after (record { settings = s.settings; time = now })
 closed changes sweep from s slots before after k now h e m =
@@ -105,7 +105,7 @@ module _ {k : ℕ} {slot : rules.Slot} {rows : List Row} {before after : List �
       ap (λ (m : Memory). kept_of m j) l.memory ∙ get_or-set_other (memory_of before).kept k j slot.kept [] d in
       λ z. slot_of y (e z) (f z)
 
-  pub slots_left : (slots : List ℕ) → lists.set (slots_of slots after) k (slot_with x k after) ≡ lists.set (slots_of slots before) k slot
+  pub slots_left : (slots : List Slot) → lists.set (slots_of slots after) k (slot_with x k after) ≡ lists.set (slots_of slots before) k slot
   unfolding slots_of
   slots_left slots =
       let y : rules.Slot = slot_with (slot_in slots k) k after in
@@ -116,7 +116,7 @@ module _ {k : ℕ} {slot : rules.Slot} {rows : List Row} {before after : List �
       ∙ ap (lists.set (slots_of slots before) k) (left_slot l h)
 
   -- the end of an event in slot k
-  pub closes : (changes : Bool) (s r : Server) (slots slots' : List ℕ) (now : ℕ) (last : List ℕ)
+  pub closes : (changes : Bool) (s r : Server) (slots slots' : List Slot) (now : ℕ) (last : List ℕ)
       → server_of r slots' last ≡ ended (sweeps_at changes slots k x) k now (slot_with x k after) (server_of s slots after)
       → server_of r slots' last ≡ record {
         settings = settings_of s.settings;
@@ -165,7 +165,7 @@ place_acted s e k h p w =
     })
     ∙ ap (at (lists.set s.slots k y)) (get_or-set_same s.slots k y fresh_slot h)
 
-pub acted_in_lem : (s : Server) (slots m : List ℕ) (e : Event) (k : ℕ) → k < 8 → place_of e ≡ in_slot k → empties_in e ≡ in_slot k
+pub acted_in_lem : (s : Server) (slots : List Slot) (m : List ℕ) (e : Event) (k : ℕ) → k < 8 → place_of e ≡ in_slot k → empties_in e ≡ in_slot k
     → acted (server_of s slots m) e ≡ acted_in (changes_rows e) k (time_after e s.time) (slot_now slots k m)
     (slot_after e (settings_of s.settings) (live_in (slots_of slots m)) (rows_in m) (slot_now slots k m))
     (rows_changed e (settings_of s.settings) (live_in (slots_of slots m)) (rows_in m)) (server_of s slots m)
@@ -177,14 +177,14 @@ acted_in_lem s slots m e k h p w =
     (rows_changed e (settings_of s.settings) (live_in (slots_of slots m)) (rows_in m)) (server_of s slots m)) (slot_of_lem s slots m k h)
 
 -- what it leaves of slot k, which was x, and of the rows, before they are swept
-abbrev pub LeavesBy : Event → Server → List ℕ → ℕ → Slot → List ℕ → List ℕ → Slot → Type 0
+abbrev pub LeavesBy : Event → Server → List Slot → ℕ → Slot → List ℕ → List ℕ → Slot → Type 0
 LeavesBy e s slots k x before after r =
     let y = slot_after e (settings_of s.settings) (live_in (slots_of slots before)) (rows_in before) (slot_with x k before) in
     Leaves k y (cleared_if (enters x.link.alignment y.link.alignment) k
     (rows_changed e (settings_of s.settings) (live_in (slots_of slots before)) (rows_in before))) before after r
 
 -- so the server at its end is that of the event
-pub closes_acted : (s r : Server) (slots slots' before after last : List ℕ) (e : Event) (k now : ℕ) (y : Slot) → k < 8 → place_of e ≡ in_slot k → empties_in e
+pub closes_acted : (s r : Server) (slots slots' : List Slot) (before after last : List ℕ) (e : Event) (k now : ℕ) (y : Slot) → k < 8 → place_of e ≡ in_slot k → empties_in e
     ≡ in_slot k
     → now ≡ time_after e s.time → LeavesBy e s slots k (slot_in slots k) before after y
     → server_of r slots' last ≡ ended (sweeps_at (changes_rows e) slots k y) k now (slot_with y k after) (server_of s slots after)
@@ -197,7 +197,7 @@ closes_acted s r slots slots' before after last e k now y h p w t l c =
     ∙ sym (acted_in_lem s slots before e k h p w)
 
 -- the same, of what a function leaves that ends an event
-pub ends_acted : (s : Server) (slots slots' before after last : List ℕ) (e : Event) (k now : ℕ) (from : Alignment) (r : Server) → k < 8 → place_of e
+pub ends_acted : (s : Server) (slots slots' : List Slot) (before after last : List ℕ) (e : Event) (k now : ℕ) (from : Alignment) (r : Server) → k < 8 → place_of e
     ≡ in_slot k → empties_in e ≡ in_slot k
     → now ≡ time_after e s.time → (slot_in slots k).link.alignment ≡ from → ((j : ℕ) → (j ≡ k → ⊥) → slot_in slots' j ≡ slot_in slots j)
     → LeavesBy e s slots k (slot_in slots k) before after (slot_in slots' k) → Closes (changes_rows e) from s slots' k now after last r

@@ -9,8 +9,9 @@ use Rattle.protocol.specs.Answers.{first_code}
 use Rattle.rules.specs.Server.{Entry, Value, Row, free, used, Slot, Server, slot_at}
 use Rattle.rules.specs.Refusals.{no_peer}
 use Rattle.slots.specs.Codes.{failure_number}
-use Rattle.server.specs.declared.queries.Status.{Status}
-use Rattle.server.specs.declared.queries.Status.TheVariants.{Refused, Shown}
+use Rattle.server.specs.declared.queries.SlotState.{SlotState}
+use Rattle.slots.specs.declared.answers.Failure.{Failure}
+use Rattle.std.specs.Prelude.{Result, Ok, Err}
 
 abbrev pub no_entry : Entry
 no_entry = record { key = []; originator = [] }
@@ -46,6 +47,6 @@ abbrev pub report_of : Server → ℕ → Report
 report_of s k = report_by (report_code s k) (slot_at s k)
 
 -- what the program answers
-abbrev pub reported : Status → Report
-reported (Refused f) = refused (failure_number f)
-reported (Shown x) = shown x.hello x.alignment x.role x.updates x.missed
+abbrev pub reported : Result SlotState Failure → Report
+reported (Err f) = refused (failure_number f)
+reported (Ok x) = shown x.hello x.alignment x.role x.updates x.missed

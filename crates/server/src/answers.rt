@@ -1,87 +1,74 @@
 // Document 01, 'Answers to an event': the cases of codes 1 to 4, and what is answered.
-ghost use Rattle.std.specs.Prelude.{◌≡◌, List, ltb, ℕ, ◌<◌, length};
-ghost use Rattle.laws.specs.Choice.{pick};
-ghost use Rattle.rules.specs.Links as links;
-ghost use Rattle.slots.specs.declared.answers.Outcome.TheVariants.{Taken, Refused};
+ghost use Rattle.std.specs.Prelude.{◌≡◌, List, ℕ, IfOk, Ok, Err};
 ghost use Rattle.rules.specs.Refusals as rules;
 ghost use Rattle.slots.specs.Codes.{code_number};
-ghost use Rattle.table.specs.Words.{table_size};
 ghost use Rattle.server.specs.State.{server_of};
 
-use protocol::HelloState;
-use slots::answers::{Failure, Outcome};
+use protocol::{Index, SlotIndex};
+use slots::answers::Failure;
 use slots::hello;
 use slots::state::Server;
+use table::Slots;
 
-// The server after an event, the answer, and how many octets were written.
+// The server after an event, and how many octets were written, or why it is refused.
 #[derive(Clone, Copy)]
 pub struct Answer {
     pub server: Server,
-    pub outcome: Outcome,
-    pub written: usize,
+    pub outcome: Result<usize, Failure>,
 }
 
-// Slot above 7, or no peer in it; time before the server's time.
-pub fn link_code(s: Server, slots: &[usize], k: usize, time: u32) -> Outcome
-    requires { length slots.now ≡ table_size }
-    ensures { (memory : List ℕ) → code_number result ≡ rules.link_code (server_of s slots.now memory) k time }
+// The slot: none above 7 or with no peer in it; time before the server's time.
+pub fn link_code(s: Server, slots: &Slots, slot: usize, time: u32) -> Result<SlotIndex, Failure>
+    ensures code { (memory : List ℕ) → code_number result ≡ rules.link_code (server_of s slots.now memory) slot time }
+    ensures index { IfOk result (λ k. k.at ≡ slot) }
 {
-    if 8 <= k {
-        return Outcome::Refused(Failure::NoPeer);
-    }
+    let k = Index::new(slot).ok_or(Failure::NoPeer)?;
     if !table::used_at(slots, k) {
-        return Outcome::Refused(Failure::NoPeer);
+        return Err(Failure::NoPeer);
     }
     if time < s.time {
-        return Outcome::Refused(Failure::TimeBefore);
+        return Err(Failure::TimeBefore);
     }
-    Outcome::Taken
-}
-
-// Out under 284 octets; the peer's link is down.
-fn room_code(h: HelloState, room: usize) -> Outcome
-    ensures { code_number result ≡ pick (ltb room 284) 3 (pick (links.is_down h) 4 0) }
-{
-    if room < 284 {
-        return Outcome::Refused(Failure::ShortOut);
-    }
-    if hello::is_down(h) {
-        return Outcome::Refused(Failure::LinkDown);
-    }
-    Outcome::Taken
+    Ok(k)
 }
 
 // Codes 1 to 4.
-pub fn poll_code(s: Server, slots: &[usize], k: usize, time: u32, room: usize) -> Outcome
-    requires { length slots.now ≡ table_size }
-    ensures { (memory : List ℕ) → code_number result ≡ rules.poll_code (server_of s slots.now memory) k time room }
+pub fn poll_code(
+    s: Server,
+    slots: &Slots,
+    slot: usize,
+    time: u32,
+    room: usize,
+) -> Result<SlotIndex, Failure>
+    ensures code { (memory : List ℕ) → code_number result ≡ rules.poll_code (server_of s slots.now memory) slot time room }
+    ensures index { IfOk result (λ k. k.at ≡ slot) }
 {
-    match link_code(s, slots, k, time) {
-        Outcome::Refused(f) => Outcome::Refused(f),
-        Outcome::Taken => room_code(table::hello_at(slots, k), room),
+    let k = link_code(s, slots, slot, time)?;
+    if room < 284 {
+        return Err(Failure::ShortOut);
     }
+    if hello::is_down(table::hello_at(slots, k)) {
+        return Err(Failure::LinkDown);
+    }
+    Ok(k)
 }
 
 // A refusal: nothing is changed, nothing written.
 pub fn refuse(s: Server, f: Failure) -> Answer
-    ensures { result ≡ record { server = s; outcome = Refused f; written = 0 } }
+    ensures { result ≡ record { server = s; outcome = Err f } }
 {
-    let outcome = Outcome::Refused(f);
     Answer {
         server: s,
-        outcome,
-        written: 0,
+        outcome: Err(f),
     }
 }
 
 // An event that wrote nothing is taken.
 pub fn take(s: Server) -> Answer
-    ensures { result ≡ record { server = s; outcome = Taken; written = 0 } }
+    ensures { result ≡ record { server = s; outcome = Ok 0 } }
 {
-    let outcome = Outcome::Taken;
     Answer {
         server: s,
-        outcome,
-        written: 0,
+        outcome: Ok(0),
     }
 }

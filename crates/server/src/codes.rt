@@ -10,7 +10,7 @@ ghost use Rattle.server.specs.Events.{is_ca_kind};
 
 use protocol::{Alignment, Kind};
 use slots::alignment::CaRule;
-use slots::answers::{Failure, Outcome};
+use slots::answers::Failure;
 use slots::state::Settings;
 use wire::read;
 use wire::read::Head;
@@ -18,23 +18,13 @@ use wire::read::Head;
 fn is_hello(h: Head) -> bool
     ensures { (p : List ℕ) → result ≡ rules.is_hello (message_of p h).body }
 {
-    let k = h.kind;
-    match k {
-        Kind::Ca => false,
-        Kind::CsuRequest => false,
-        Kind::CsuReply => false,
-        Kind::Csus => false,
-        Kind::Hello => true,
-    }
+    h.kind == Kind::Hello
 }
 
 fn in_group(s: Settings, h: Head) -> bool
     ensures { result ≡ (eqb h.protocol s.protocol && eqb h.group s.group) }
 {
-    if h.protocol != s.protocol {
-        return false;
-    }
-    h.group == s.group
+    h.protocol == s.protocol && h.group == s.group
 }
 
 // Whether the packet is for somebody else.
@@ -42,26 +32,13 @@ fn is_for_other(id: &[u8], p: &[u8], h: Head) -> bool
     ensures { result ≡ (not (rules.is_hello (message_of p.now h).body)
         && not (same (message_of p.now h).receiver id.now)) }
 {
-    if is_hello(h) {
-        return false;
-    }
-    !octets::same(read::receiver(p, h), id)
+    !is_hello(h) && !octets::same(read::receiver(p, h), id)
 }
 
 pub fn is_refuse(rule: CaRule) -> bool
     ensures { result ≡ rules.is_refused (rule_of rule) }
 {
-    match rule {
-        CaRule::Refuse => true,
-        CaRule::BecomeSlave => false,
-        CaRule::BecomeMaster => false,
-        CaRule::Repeat => false,
-        CaRule::SlaveOn => false,
-        CaRule::MasterOn => false,
-        CaRule::MasterDone => false,
-        CaRule::Ignore => false,
-        CaRule::Restart => false,
-    }
+    matches!(rule, CaRule::Refuse)
 }
 
 // Whether a packet that is no CA is not usable in this state.
@@ -69,33 +46,34 @@ pub fn unusable(h: Head, a: Alignment) -> bool
     ensures { (s : server.Settings) (p : List ℕ) (x : server.Slot) → is_ca_kind h.kind ≡ false → x.link.alignment ≡ a
         → result ≡ rules.unusable s (message_of p h) x (message_of p h).body }
 {
-    let k = h.kind;
-    match k {
-        Kind::Ca => false,
-        Kind::CsuRequest => !slots::alignment::is_past(a),
-        Kind::CsuReply => !slots::alignment::is_past(a),
-        Kind::Csus => !slots::alignment::is_past(a),
-        Kind::Hello => false,
+    match h.kind {
+        Kind::Ca | Kind::Hello => false,
+        Kind::CsuRequest | Kind::CsuReply | Kind::Csus => !slots::alignment::is_past(a),
     }
 }
 
 // `unusable`: the type is not usable in the slot's state.
-pub fn message_code(s: Settings, p: &[u8], h: Head, peer: [u8; 4], unusable: bool) -> Outcome
+pub fn message_code(
+    s: Settings,
+    p: &[u8],
+    h: Head,
+    peer: [u8; 4],
+    unusable: bool,
+) -> Result<(), Failure>
     ensures { (x : server.Slot) → x.peer ≡ peer → unusable ≡ rules.unusable (settings_of s) (message_of p.now h) x
         (message_of p.now h).body → code_number result ≡ rules.message_code (settings_of s) x (message_of p.now h) }
 {
     if !in_group(s, h) {
-        return Outcome::Refused(Failure::Group);
+        return Err(Failure::Group);
     }
-    let id = s.id;
-    if is_for_other(&id, p, h) {
-        return Outcome::Refused(Failure::Receiver);
+    if is_for_other(&s.id, p, h) {
+        return Err(Failure::Receiver);
     }
     if !octets::same(read::sender(p, h), &peer) {
-        return Outcome::Refused(Failure::Sender);
+        return Err(Failure::Sender);
     }
     if unusable {
-        return Outcome::Refused(Failure::State);
+        return Err(Failure::State);
     }
-    Outcome::Taken
+    Ok(())
 }

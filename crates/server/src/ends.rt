@@ -1,25 +1,21 @@
 // The end of an event, and the slots that puts go to.
-ghost use Rattle.std.specs.Prelude.{◌≡◌, ◌||◌, List, ℕ, ◌<◌, length};
+ghost use Rattle.std.specs.Prelude.{◌≡◌, List, ℕ, Ok};
 ghost use Rattle.rules.specs.Links as links;
-ghost use Rattle.rules.specs.Rows.{swept_if};
 ghost use Rattle.rules.specs.Events.{live_in};
-ghost use Rattle.memory.specs.Layout.{memory_size};
-ghost use Rattle.memory.specs.Memory.{is_marked, rows_in, memory_of, with_rows};
-ghost use Rattle.slots.specs.declared.answers.Outcome.TheVariants.{Taken};
-ghost use Rattle.table.specs.Words.{table_size, slot_in};
+ghost use Rattle.memory.specs.Memory.{is_marked};
+ghost use Rattle.table.specs.Slots.{slot_in};
 ghost use Rattle.server.specs.State.{slots_of, marked_if, Closes};
 
 use crate::answers::Answer;
-use memory::{marks, store};
-use protocol::Alignment;
+use memory::{Storage, marks, store};
+use protocol::{Alignment, Index, SlotIndex};
 use slots::alignment;
-use slots::answers::Outcome;
 use slots::state::Server;
+use table::Slots;
 
 // ---- the slots that puts go to, as an octet of marks
-fn mark_live(slots: &[usize], k: usize, b: u8) -> u8
-    requires { (length slots.now ≡ table_size) × (k < 8) }
-    ensures { is_marked result ≡ marked_if (links.is_live (slot_in slots.now k).link.alignment) k (is_marked b) }
+fn mark_live(slots: &Slots, k: SlotIndex, b: u8) -> u8
+    ensures { is_marked result ≡ marked_if (links.is_live (slot_in slots.now k.at).link.alignment) k.at (is_marked b) }
 {
     let a = table::alignment_at(slots, k);
     if alignment::is_live(a) {
@@ -28,79 +24,54 @@ fn mark_live(slots: &[usize], k: usize, b: u8) -> u8
     b
 }
 
-pub fn live_of(slots: &[usize]) -> u8
-    requires { length slots.now ≡ table_size }
+pub fn live_of(slots: &Slots) -> u8
     ensures { (memory : List ℕ) → is_marked result ≡ live_in (slots_of slots.now memory) }
 {
     let mut b: u8 = 0;
-    let mut k: usize = 0;
-    while k < 8 {
-        b = mark_live(slots, k, b);
-        k += 1;
+    for k in 0..8 {
+        b = mark_live(slots, Index { at: k }, b);
     }
     b
 }
 
 // ---- the end of an event
-fn either(a: bool, b: bool) -> bool
-    ensures { result ≡ (a || b) }
-{
-    if a {
-        return true;
-    }
-    b
-}
-
-// Purged rows that wait for nobody are freed.
-fn sweep_if(memory: &mut [u8], sweep: bool)
-    requires { length memory.old ≡ memory_size }
-    ensures { memory_of memory.new ≡ with_rows (swept_if sweep (rows_in memory.old)) (memory_of memory.old) }
-{
-    if sweep {
-        store::sweep(memory);
-    }
-}
-
-// An event in slot k is taken, and the slot put: the rows are swept where some may have been changed or a waiting list emptied.
+// An event in slot k is taken, and the slot put: the rows are swept, purged rows that wait for nobody freed, where some may have been changed or a
+// waiting list emptied.
 // `from`: the slot's alignment state before the event.
 pub fn close(
     s: Server,
-    slots: &[usize],
-    memory: &mut [u8],
-    k: usize,
+    slots: &Slots,
+    memory: &mut Storage,
+    k: SlotIndex,
     time: u32,
     changes: bool,
     from: Alignment,
 ) -> Server
-    requires { (length slots.now ≡ table_size) × ((length memory.old ≡ memory_size) × (k < 8)) }
-    ensures { Closes changes from s slots.now k time memory.old memory.new result }
+    ensures { Closes changes from s slots.now k.at time memory.old memory.new result }
 {
     let entered = alignment::enters(from, table::alignment_at(slots, k));
-    sweep_if(memory, either(changes, entered));
-    let mut server = s;
-    server.time = time;
-    server
+    if changes || entered {
+        store::sweep(memory);
+    }
+    Server { time, ..s }
 }
 
 pub fn taken(
     s: Server,
-    slots: &[usize],
-    memory: &mut [u8],
-    k: usize,
+    slots: &Slots,
+    memory: &mut Storage,
+    k: SlotIndex,
     time: u32,
     changes: bool,
     from: Alignment,
     written: usize,
 ) -> Answer
-    requires { (length slots.now ≡ table_size) × ((length memory.old ≡ memory_size) × (k < 8)) }
-    ensures { Closes changes from s slots.now k time memory.old memory.new result.server
-        × (result ≡ record { server = result.server; outcome = Taken; written = written }) }
+    ensures { Closes changes from s slots.now k.at time memory.old memory.new result.server
+        × (result ≡ record { server = result.server; outcome = Ok written }) }
 {
     let server = close(s, slots, memory, k, time, changes, from);
-    let outcome = Outcome::Taken;
     Answer {
         server,
-        outcome,
-        written,
+        outcome: Ok(written),
     }
 }

@@ -1,15 +1,18 @@
 // The events, for any server, table of slots, memory, octets, slot and time. `Does` says what each leaves and answers. That octets are below
-// 256 is part of it, by `octets::bounded`.
+// 256 is part of it, by `octets::bounded`. A server, its slots and its memory are apart, as a host lends them. Each event of document 01
+// has its function, also where two differ in one word.
 ghost use Rattle.std.specs.Prelude.{length};
 ghost use Rattle.rules.specs.Events as events;
 ghost use Rattle.server.specs.State.{Does, DoesOut, Starts};
 
 use crate::answers::Answer;
 use crate::{links, own, packet, peers, poll};
+use memory::Storage;
 use slots::state::{Server, Settings};
+use table::Slots;
 
 // A server with these settings, a table in which no slot has a peer, and a memory with nothing in it. Where they are refused the server counts for nothing.
-pub fn start(settings: Settings, slots: &mut [usize; 200], memory: &mut [u8; 21504]) -> Answer
+pub fn start(settings: Settings, slots: &mut Slots, memory: &mut Storage) -> Answer
     ensures { Starts settings slots.old slots.new memory.old memory.new result }
 {
     peers::start(settings, slots, memory)
@@ -17,8 +20,8 @@ pub fn start(settings: Settings, slots: &mut [usize; 200], memory: &mut [u8; 215
 
 pub fn add_peer(
     s: Server,
-    slots: &mut [usize; 200],
-    memory: &mut [u8; 21504],
+    slots: &mut Slots,
+    memory: &mut Storage,
     slot: usize,
     id: &[u8],
 ) -> Answer
@@ -29,13 +32,7 @@ pub fn add_peer(
     peers::add_peer(s, slots, memory, slot, id)
 }
 
-pub fn link_up(
-    s: Server,
-    slots: &mut [usize; 200],
-    memory: &mut [u8; 21504],
-    slot: usize,
-    time: u32,
-) -> Answer
+pub fn link_up(s: Server, slots: &mut Slots, memory: &mut Storage, slot: usize, time: u32) -> Answer
     ensures { Does (events.link_up slot time) s slots.old slots.new memory.old memory.new result }
 {
     links::link_up(s, slots, memory, slot, time)
@@ -43,8 +40,8 @@ pub fn link_up(
 
 pub fn link_down(
     s: Server,
-    slots: &mut [usize; 200],
-    memory: &mut [u8; 21504],
+    slots: &mut Slots,
+    memory: &mut Storage,
     slot: usize,
     time: u32,
 ) -> Answer
@@ -55,8 +52,8 @@ pub fn link_down(
 
 pub fn packet(
     s: Server,
-    slots: &mut [usize; 200],
-    memory: &mut [u8; 21504],
+    slots: &mut Slots,
+    memory: &mut Storage,
     slot: usize,
     time: u32,
     p: &[u8],
@@ -71,8 +68,8 @@ pub fn packet(
 
 pub fn poll(
     s: Server,
-    slots: &mut [usize; 200],
-    memory: &mut [u8; 21504],
+    slots: &mut Slots,
+    memory: &mut Storage,
     slot: usize,
     time: u32,
     out: &mut [u8],
@@ -83,13 +80,7 @@ pub fn poll(
     poll::poll(s, slots, memory, slot, time, out)
 }
 
-pub fn set(
-    s: Server,
-    slots: &[usize; 200],
-    memory: &mut [u8; 21504],
-    key: &[u8],
-    payload: &[u8],
-) -> Answer
+pub fn set(s: Server, slots: &Slots, memory: &mut Storage, key: &[u8], payload: &[u8]) -> Answer
     ensures { Does (events.set key.now payload.now) s slots.now slots.now memory.old
         memory.new result }
 {
@@ -98,14 +89,14 @@ pub fn set(
     own::set(s, slots, memory, key, payload)
 }
 
-pub fn withdraw(s: Server, slots: &[usize; 200], memory: &mut [u8; 21504], key: &[u8]) -> Answer
+pub fn withdraw(s: Server, slots: &Slots, memory: &mut Storage, key: &[u8]) -> Answer
     ensures { Does (events.withdraw key.now) s slots.now slots.now memory.old memory.new result }
 {
     octets::bounded(key);
     own::withdraw(s, slots, memory, key)
 }
 
-pub fn purge(s: Server, slots: &[usize; 200], memory: &mut [u8; 21504], key: &[u8]) -> Answer
+pub fn purge(s: Server, slots: &Slots, memory: &mut Storage, key: &[u8]) -> Answer
     ensures { Does (events.purge key.now) s slots.now slots.now memory.old memory.new result }
 {
     octets::bounded(key);

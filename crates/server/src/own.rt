@@ -1,42 +1,29 @@
 // Document 01, 'Updates': set, withdraw and purge, changes of our own entries.
-ghost use Rattle.std.specs.Prelude.{◌≡◌, List, true, ℕ, ◌<◌, length, take};
+ghost use Rattle.std.specs.Prelude.{◌≡◌, ◌&&◌, List, true, ℕ, ltb, leb, length, take, IfOk};
 ghost use Rattle.protocol.specs.Numbers as numbers;
-ghost use Rattle.rules.specs.Rows.{entry_row, swept};
-ghost use Rattle.rules.specs.Updates.{set_rows, withdraw_rows, purge_rows};
 ghost use Rattle.rules.specs.Refusals.{own_entry};
-ghost use Rattle.rules.specs.Events.{live_in};
-ghost use Rattle.memory.specs.Memory.{memory_of};
-ghost use Rattle.memory.specs.Entries.{rows_as};
-ghost use Rattle.memory.specs.Search.{FitsKey, FitsName, FitsNamed, FoundBelow, first_from};
+ghost use Rattle.memory.specs.Search.{place_of, FitsKey, first_from};
 ghost use Rattle.slots.specs.State.{settings_of};
 ghost use Rattle.rules.specs.Events as events;
 ghost use Rattle.rules.specs.Refusals as rules;
-ghost use Rattle.memory.specs.Layout.{memory_size};
-ghost use Rattle.table.specs.Words.{table_size};
-ghost use Rattle.memory.specs.Memory.{entry_named, row_in, rows_in};
+ghost use Rattle.memory.specs.Memory.{entry_named, rows_in};
 ghost use Rattle.slots.specs.Codes.{code_number};
-ghost use Rattle.server.specs.State.{slots_of, server_of, Steps};
-ghost use Rattle.rules.specs.Server.{Entry, is_used, holds};
+ghost use Rattle.server.specs.State.{server_of, Steps};
+ghost use Rattle.rules.specs.Server.{holds};
 ghost use Rattle.slots.specs.declared.state.Server as declared;
-ghost use Rattle.server.specs.Events.{own_of};
+ghost use Rattle.server.specs.Events.{own_code, IsOwn};
+ghost use Rattle.slots.specs.declared.state.Slot.{Slot};
 
 use crate::answers::Answer;
 use crate::{answers, ends};
-use memory::names::Name;
-use memory::rows::Found;
-use memory::{entries, names, rows, store};
+use memory::names::{EntryName, Name};
+use memory::rows::RowIndex;
+use memory::store::Payload;
+use memory::{Storage, entries, names, rows, store};
 use protocol::CsaNumber;
-use slots::answers::{Failure, Outcome};
+use slots::answers::Failure;
 use slots::state::Server;
-
-// Of the first row that holds an entry: whether there is one, a spent number in it, a purged one, no payload (or no such row).
-#[derive(Clone, Copy)]
-pub struct Own {
-    pub held: bool,
-    pub spent: bool,
-    pub purged: bool,
-    pub empty: bool,
-}
+use table::Slots;
 
 // 2147483646 or more.
 fn is_spent(n: CsaNumber) -> bool
@@ -45,219 +32,139 @@ fn is_spent(n: CsaNumber) -> bool
     2147483646 <= n.0
 }
 
-fn own_at(memory: &[u8], i: usize) -> Own
-    requires { (length memory.now ≡ memory_size) × (i < 64) }
-    ensures { is_used (row_in memory.now i) ≡ true → result ≡ own_of (row_in memory.now i) }
-{
-    let n = rows::number_of(memory, i);
-    Own {
-        held: true,
-        spent: is_spent(n),
-        purged: store::is_purged(n),
-        empty: rows::payload_of(memory, i).len() == 0,
-    }
-}
-
-fn own_of(memory: &[u8], found: Found) -> Own
-    requires { (length memory.now ≡ memory_size) × FoundBelow found }
-    ensures { (e : Entry) → found ≡ first_from (holds e) 0 (rows_in memory.now) → result
-        ≡ own_of (entry_row e (rows_in memory.now)) }
-{
-    match found {
-        Found::At(i) => own_at(memory, i),
-        Found::Nothing => Own {
-            held: false,
-            spent: false,
-            purged: false,
-            empty: true,
-        },
-    }
-}
-
 // The name of our entry with this key.
 fn own_name(s: Server, key: &[u8]) -> Name
     requires { FitsKey key.now s.settings.id }
-    ensures { (entry_named (take result.len result.octets) ≡ own_entry (settings_of s.settings) key.now)
-        × FitsName (take result.len result.octets) }
+    ensures { entry_named (take result.len result.octets) ≡ own_entry (settings_of s.settings) key.now }
 {
-    let settings = s.settings;
-    let id = settings.id;
-    names::of_entry(key, &id)
+    names::of_entry(key, &s.settings.id)
 }
 
-// Its row.
-fn row_of(s: Server, memory: &[u8], key: &[u8]) -> Found
-    requires { (length memory.now ≡ memory_size) × FitsKey key.now s.settings.id }
-    ensures { result ≡ first_from (holds (own_entry (settings_of s.settings) key.now)) 0 (rows_in memory.now) }
+// Whether a key or a payload of ours has an octet and no more than these.
+fn fits(octets: &[u8], most: usize) -> bool
+    ensures { result ≡ (ltb 0 (length octets.now) && leb (length octets.now) most) }
 {
-    let name = own_name(s, key);
-    rows::find(memory, octets::first(&name.octets, name.len))
-}
-
-fn key_good(key: &[u8]) -> bool
-    ensures { result ≡ rules.own_key_good key.now }
-{
-    if key.len() == 0 {
-        return false;
-    }
-    key.len() <= 16
-}
-
-fn payload_good(payload: &[u8]) -> bool
-    ensures { result ≡ rules.own_payload_good payload.now }
-{
-    if payload.len() == 0 {
-        return false;
-    }
-    payload.len() <= 32
+    (1..=most).contains(&octets.len())
 }
 
 // ---- set
-fn set_code(memory: &[u8], found: Found) -> Outcome
-    requires { (length memory.now ≡ memory_size) × FoundBelow found }
-    ensures { (s : declared.Server) (slots key payload : List ℕ) → rules.own_key_good key ≡ true → rules.own_payload_good payload
-        ≡ true → found
+// By the row of the entry, if it has one.
+fn set_code(memory: &Storage, found: Option<RowIndex>) -> Result<(), Failure>
+    ensures { (s : declared.Server) (slots : List Slot) (key payload : List ℕ) → rules.own_key_good key ≡ true → rules.own_payload_good payload
+        ≡ true → place_of found
         ≡ first_from (holds (own_entry (settings_of s.settings) key)) 0 (rows_in memory.now) → code_number result
         ≡ rules.set_code (server_of s slots memory.now) key payload }
 {
-    let o = own_of(memory, found);
-    if o.spent {
-        return Outcome::Refused(Failure::NumberSpent);
+    match found {
+        Some(i) if is_spent(rows::number_of(memory, i)) => Err(Failure::NumberSpent),
+        None if !rows::has_free(memory) => Err(Failure::NoFreeRow),
+        _ => Ok(()),
     }
-    if o.held {
-        return Outcome::Taken;
-    }
-    if rows::has_free(memory) {
-        return Outcome::Taken;
-    }
-    Outcome::Refused(Failure::NoFreeRow)
-}
-
-fn set_taken(slots: &[usize], memory: &mut [u8], found: Found, name: &[u8], payload: &[u8])
-    requires { (((length slots.now ≡ table_size) × (length memory.old ≡ memory_size)) × FitsNamed name.now payload.now)
-        × (found ≡ first_from (holds (entry_named name.now)) 0 (rows_in memory.old)) }
-    ensures { memory_of memory.new ≡ rows_as (λ rows. swept (set_rows (live_in (slots_of slots.now memory.old))
-        (entry_named name.now) payload.now rows)) memory.old }
-{
-    entries::set_entry(memory, found, ends::live_of(slots), name, payload);
-    store::sweep(memory);
 }
 
 // By the name of the entry: its key is good, and the payload too.
-fn set_named(s: Server, slots: &[usize], memory: &mut [u8], name: &[u8], payload: &[u8]) -> Answer
-    requires { ((length slots.now ≡ table_size) × (length memory.old ≡ memory_size)) × FitsNamed name.now payload.now }
-    ensures { (key : List ℕ) → rules.own_key_good key ≡ true → rules.own_payload_good payload.now ≡ true
-        → entry_named name.now ≡ own_entry (settings_of s.settings) key
-        → Steps (events.set key payload.now) s slots.now slots.now memory.old memory.new result }
+fn set_named(
+    s: Server,
+    slots: &Slots,
+    memory: &mut Storage,
+    name: EntryName,
+    payload: Payload,
+) -> Answer
+    ensures { (key : List ℕ) → rules.own_key_good key ≡ true → rules.own_payload_good payload.entry.octets.now ≡ true
+        → entry_named name.entry.octets.now ≡ own_entry (settings_of s.settings) key
+        → Steps (events.set key payload.entry.octets.now) s slots.now slots.now memory.old memory.new result }
 {
-    let found = rows::find(memory, name);
+    let found = rows::find(memory, name.octets);
     match set_code(memory, found) {
-        Outcome::Refused(f) => answers::refuse(s, f),
-        Outcome::Taken => {
-            set_taken(slots, memory, found, name, payload);
+        Err(f) => answers::refuse(s, f),
+        Ok(()) => {
+            entries::set_entry(memory, found, ends::live_of(slots), name, payload);
+            store::sweep(memory);
             answers::take(s)
         }
     }
 }
 
-pub fn set(s: Server, slots: &[usize], memory: &mut [u8], key: &[u8], payload: &[u8]) -> Answer
-    requires { (length slots.now ≡ table_size) × (length memory.old ≡ memory_size) }
+pub fn set(s: Server, slots: &Slots, memory: &mut Storage, key: &[u8], payload: &[u8]) -> Answer
     ensures { Steps (events.set key.now payload.now) s slots.now slots.now memory.old
         memory.new result }
 {
-    if !key_good(key) {
-        return answers::refuse(s, Failure::Size);
-    }
-    if !payload_good(payload) {
+    if !fits(key, 16) || !fits(payload, 32) {
         return answers::refuse(s, Failure::Size);
     }
     let name = own_name(s, key);
-    let octets = octets::first(&name.octets, name.len);
-    set_named(s, slots, memory, octets, payload)
+    set_named(
+        s,
+        slots,
+        memory,
+        name.as_entry(),
+        Payload { octets: payload },
+    )
 }
 
-// ---- withdraw
-fn withdraw_code(memory: &[u8], found: Found) -> Outcome
-    requires { (length memory.now ≡ memory_size) × FoundBelow found }
-    ensures { (s : declared.Server) (slots key : List ℕ) → rules.own_key_good key ≡ true → found
-        ≡ first_from (holds (own_entry (settings_of s.settings) key)) 0 (rows_in memory.now) → code_number result
-        ≡ rules.withdraw_code (server_of s slots memory.now) key }
+// ---- withdraw and purge
+// The row of our entry with this key.
+fn own_row(s: Server, memory: &Storage, key: &[u8]) -> Result<RowIndex, Failure>
+    ensures code { code_number result ≡ own_code (settings_of s.settings) key.now (rows_in memory.now) }
+    ensures row { IfOk result (λ i. IsOwn (settings_of s.settings) key.now memory.now i.at) }
 {
-    let o = own_of(memory, found);
-    if o.empty {
-        return Outcome::Refused(Failure::NoEntry);
+    if !fits(key, 16) {
+        return Err(Failure::Size);
     }
-    if o.spent {
-        return Outcome::Refused(Failure::NumberSpent);
-    }
-    Outcome::Taken
+    let name = own_name(s, key);
+    rows::find(memory, name.as_entry().octets).ok_or(Failure::NoEntry)
 }
 
-fn withdraw_taken(slots: &[usize], memory: &mut [u8], found: Found)
-    requires { ((length slots.now ≡ table_size) × (length memory.old ≡ memory_size)) × FoundBelow found }
-    ensures { (e : Entry) → found ≡ first_from (holds e) 0 (rows_in memory.old) → memory_of memory.new
-        ≡ rows_as (λ rows. swept (withdraw_rows (live_in (slots_of slots.now memory.old)) e rows)) memory.old }
+// Its row, if it may be withdrawn.
+fn withdraw_row(s: Server, memory: &Storage, key: &[u8]) -> Result<RowIndex, Failure>
+    ensures code { (slots : List Slot) → code_number result ≡ rules.withdraw_code (server_of s slots memory.now) key.now }
+    ensures row { IfOk result (λ i. IsOwn (settings_of s.settings) key.now memory.now i.at) }
 {
-    entries::withdraw_entry(memory, ends::live_of(slots), found);
-    store::sweep(memory);
+    let i = own_row(s, memory, key)?;
+    if rows::payload_of(memory, i).is_empty() {
+        return Err(Failure::NoEntry);
+    }
+    if is_spent(rows::number_of(memory, i)) {
+        return Err(Failure::NumberSpent);
+    }
+    Ok(i)
 }
 
-pub fn withdraw(s: Server, slots: &[usize], memory: &mut [u8], key: &[u8]) -> Answer
-    requires { (length slots.now ≡ table_size) × (length memory.old ≡ memory_size) }
+pub fn withdraw(s: Server, slots: &Slots, memory: &mut Storage, key: &[u8]) -> Answer
     ensures { Steps (events.withdraw key.now) s slots.now slots.now memory.old
         memory.new result }
 {
-    if !key_good(key) {
-        return answers::refuse(s, Failure::Size);
-    }
-    let found = row_of(s, memory, key);
-    match withdraw_code(memory, found) {
-        Outcome::Refused(f) => answers::refuse(s, f),
-        Outcome::Taken => {
-            withdraw_taken(slots, memory, found);
+    match withdraw_row(s, memory, key) {
+        Err(f) => answers::refuse(s, f),
+        Ok(i) => {
+            entries::withdraw_entry(memory, ends::live_of(slots), Some(i));
+            store::sweep(memory);
             answers::take(s)
         }
     }
 }
 
-// ---- purge
-fn purge_code(memory: &[u8], found: Found) -> Outcome
-    requires { (length memory.now ≡ memory_size) × FoundBelow found }
-    ensures { (s : declared.Server) (slots key : List ℕ) → rules.own_key_good key ≡ true → found
-        ≡ first_from (holds (own_entry (settings_of s.settings) key)) 0 (rows_in memory.now) → code_number result
-        ≡ rules.purge_code (server_of s slots memory.now) key }
+// Its row, if it may be purged. Beside `withdraw_row`, other tests by other rules: what both do is `own_row`.
+fn purge_row(s: Server, memory: &Storage, key: &[u8]) -> Result<RowIndex, Failure>
+    ensures code { (slots : List Slot) → code_number result ≡ rules.purge_code (server_of s slots memory.now) key.now }
+    ensures row { IfOk result (λ i. IsOwn (settings_of s.settings) key.now memory.now i.at) }
 {
-    let o = own_of(memory, found);
-    if !o.held {
-        return Outcome::Refused(Failure::NoEntry);
+    let i = own_row(s, memory, key)?;
+    if store::is_purged(rows::number_of(memory, i)) {
+        return Err(Failure::NumberSpent);
     }
-    if o.purged {
-        return Outcome::Refused(Failure::NumberSpent);
-    }
-    Outcome::Taken
+    Ok(i)
 }
 
-fn purge_taken(slots: &[usize], memory: &mut [u8], found: Found)
-    requires { ((length slots.now ≡ table_size) × (length memory.old ≡ memory_size)) × FoundBelow found }
-    ensures { (e : Entry) → found ≡ first_from (holds e) 0 (rows_in memory.old) → memory_of memory.new
-        ≡ rows_as (λ rows. swept (purge_rows (live_in (slots_of slots.now memory.old)) e rows)) memory.old }
-{
-    entries::purge_entry(memory, ends::live_of(slots), found);
-    store::sweep(memory);
-}
-
-pub fn purge(s: Server, slots: &[usize], memory: &mut [u8], key: &[u8]) -> Answer
-    requires { (length slots.now ≡ table_size) × (length memory.old ≡ memory_size) }
+// Beside `withdraw`, another event of the rules: with closures for the test and the change, which alone differ, neither is plainer.
+pub fn purge(s: Server, slots: &Slots, memory: &mut Storage, key: &[u8]) -> Answer
     ensures { Steps (events.purge key.now) s slots.now slots.now memory.old memory.new result }
 {
-    if !key_good(key) {
-        return answers::refuse(s, Failure::Size);
-    }
-    let found = row_of(s, memory, key);
-    match purge_code(memory, found) {
-        Outcome::Refused(f) => answers::refuse(s, f),
-        Outcome::Taken => {
-            purge_taken(slots, memory, found);
+    match purge_row(s, memory, key) {
+        Err(f) => answers::refuse(s, f),
+        Ok(i) => {
+            entries::purge_entry(memory, ends::live_of(slots), Some(i));
+            store::sweep(memory);
             answers::take(s)
         }
     }

@@ -1,33 +1,30 @@
 // Settings taken, and peers added.
-ghost use Rattle.std.specs.Prelude.{◌≡◌, ◌&&◌, List, ℕ, ◌<◌, length};
+ghost use Rattle.std.specs.Prelude.{◌≡◌, ◌&&◌, List, ℕ, length, IfOk};
 ghost use Rattle.laws.specs.Tables.{has, same};
 ghost use Rattle.rules.specs.Events as events;
 ghost use Rattle.rules.specs.Refusals as rules;
-ghost use Rattle.memory.specs.Layout.{memory_size};
-ghost use Rattle.table.specs.Words.{table_size, slot_in};
+ghost use Rattle.table.specs.Slots.{slot_in};
 ghost use Rattle.slots.specs.Codes.{code_number};
 ghost use Rattle.server.specs.State.{slots_of, server_of, Steps, Starts};
 
 use crate::answers;
 use crate::answers::Answer;
 use actions::parts;
-use memory::store;
-use slots::answers::{Failure, Outcome};
+use memory::{Storage, store};
+use protocol::{Index, SlotIndex};
+use slots::answers::Failure;
 use slots::state;
 use slots::state::{Server, Settings};
+use table::Slots;
 
 // 17 for HelloInterval or DeadFactor 0.
-pub fn start(settings: Settings, slots: &mut [usize], memory: &mut [u8]) -> Answer
-    requires { length memory.old ≡ memory_size }
+pub fn start(settings: Settings, slots: &mut Slots, memory: &mut Storage) -> Answer
     ensures { Starts settings slots.old slots.new memory.old memory.new result }
 {
     let id = settings.id;
     octets::bounded(&id);
     let server = Server { settings, time: 0 };
-    if settings.interval == 0 {
-        return answers::refuse(server, Failure::Size);
-    }
-    if settings.factor == 0 {
+    if settings.interval == 0 || settings.factor == 0 {
         return answers::refuse(server, Failure::Size);
     }
     table::clear(slots);
@@ -36,61 +33,43 @@ pub fn start(settings: Settings, slots: &mut [usize], memory: &mut [u8]) -> Answ
 }
 
 // ---- adding a peer
-fn is_peer(slots: &[usize], k: usize, id: &[u8]) -> bool
-    requires { (length slots.now ≡ table_size) × (k < 8) }
-    ensures { result ≡ ((slot_in slots.now k).used && same (slot_in slots.now k).peer id.now) }
+fn is_peer(slots: &Slots, k: SlotIndex, id: &[u8]) -> bool
+    ensures { result ≡ ((slot_in slots.now k.at).used && same (slot_in slots.now k.at).peer id.now) }
 {
-    if !table::used_at(slots, k) {
-        return false;
-    }
-    let peer = table::peer_at(slots, k);
-    octets::same(&peer, id)
+    table::used_at(slots, k) && octets::same(&table::peer_at(slots, k), id)
 }
 
 // Whether some slot has this peer.
-fn has_peer(slots: &[usize], id: &[u8]) -> bool
-    requires { length slots.now ≡ table_size }
+fn has_peer(slots: &Slots, id: &[u8]) -> bool
     ensures { (memory : List ℕ) → result ≡ has (rules.is_peer id.now) (slots_of slots.now memory) }
 {
-    let mut k: usize = 0;
-    while k < 8 {
-        if is_peer(slots, k, id) {
+    for k in 0..8 {
+        if is_peer(slots, Index { at: k }, id) {
             return true;
         }
-        k += 1;
     }
     false
 }
 
-fn add_code(s: Server, slots: &[usize], k: usize, id: &[u8]) -> Outcome
-    requires { length slots.now ≡ table_size }
-    ensures { (memory : List ℕ) → code_number result ≡ rules.add_peer_code (server_of s slots.now memory) k id.now }
+fn add_code(s: Server, slots: &Slots, slot: usize, id: &[u8]) -> Result<SlotIndex, Failure>
+    ensures code { (memory : List ℕ) → code_number result ≡ rules.add_peer_code (server_of s slots.now memory) slot id.now }
+    ensures index { IfOk result (λ k. k.at ≡ slot) }
 {
-    if 8 <= k {
-        return Outcome::Refused(Failure::NoPeer);
+    let k = Index::new(slot).ok_or(Failure::NoPeer)?;
+    if id.len() != 4 || table::used_at(slots, k) {
+        return Err(Failure::Size);
     }
-    if id.len() != 4 {
-        return Outcome::Refused(Failure::Size);
+    if octets::same(id, &s.settings.id) || has_peer(slots, id) {
+        return Err(Failure::Size);
     }
-    if table::used_at(slots, k) {
-        return Outcome::Refused(Failure::Size);
-    }
-    let settings = s.settings;
-    let own = settings.id;
-    if octets::same(id, &own) {
-        return Outcome::Refused(Failure::Size);
-    }
-    if has_peer(slots, id) {
-        return Outcome::Refused(Failure::Size);
-    }
-    Outcome::Taken
+    Ok(k)
 }
 
 // It has no requests, no kept CA, and no row waits for a slot that had no peer.
-fn add_taken(s: Server, slots: &mut [usize], memory: &mut [u8], k: usize, id: &[u8]) -> Server
-    requires { ((length slots.old ≡ table_size) × (length memory.old ≡ memory_size)) × ((k < 8) × (length id.now ≡ 4)) }
+fn add_taken(s: Server, slots: &mut Slots, memory: &mut Storage, k: SlotIndex, id: &[u8]) -> Server
+    requires { length id.now ≡ 4 }
     ensures { server_of result slots.new memory.new ≡ events.acted (server_of s slots.old memory.old)
-        (events.add_peer k id.now) }
+        (events.add_peer k.at id.now) }
 {
     parts::empty_lists(memory, k);
     let x = state::peer_slot(octets::array4(id));
@@ -98,13 +77,18 @@ fn add_taken(s: Server, slots: &mut [usize], memory: &mut [u8], k: usize, id: &[
     s
 }
 
-pub fn add_peer(s: Server, slots: &mut [usize], memory: &mut [u8], k: usize, id: &[u8]) -> Answer
-    requires { (length slots.old ≡ table_size) × (length memory.old ≡ memory_size) }
-    ensures { Steps (events.add_peer k id.now) s slots.old slots.new memory.old memory.new result }
+pub fn add_peer(
+    s: Server,
+    slots: &mut Slots,
+    memory: &mut Storage,
+    slot: usize,
+    id: &[u8],
+) -> Answer
+    ensures { Steps (events.add_peer slot id.now) s slots.old slots.new memory.old memory.new result }
 {
-    match add_code(s, slots, k, id) {
-        Outcome::Refused(f) => answers::refuse(s, f),
-        Outcome::Taken => {
+    match add_code(s, slots, slot, id) {
+        Err(f) => answers::refuse(s, f),
+        Ok(k) => {
             let server = add_taken(s, slots, memory, k, id);
             answers::take(server)
         }

@@ -1,27 +1,27 @@
 // A poll.
 ghost use Rattle.std.specs.Prelude.{◌≡◌, ◌≤◌, ◌<◌, length};
 ghost use Rattle.rules.specs.Events as events;
-ghost use Rattle.memory.specs.Layout.{memory_size};
-ghost use Rattle.table.specs.Words.{table_size};
 ghost use Rattle.server.specs.State.{StepsOut};
 ghost use Rattle.server.specs.Events.{PollsTaken};
 
 use crate::answers::Answer;
 use crate::{answers, ends};
 use actions::poll;
-use slots::answers::Outcome;
+use memory::Storage;
+use protocol::SlotIndex;
 use slots::state::Server;
+use table::Slots;
 
 fn poll_taken(
     s: Server,
-    slots: &mut [usize],
-    memory: &mut [u8],
-    k: usize,
+    slots: &mut Slots,
+    memory: &mut Storage,
+    k: SlotIndex,
     time: u32,
     out: &mut [u8],
 ) -> Answer
-    requires { ((length slots.old ≡ table_size) × (length memory.old ≡ memory_size)) × ((k < 8) × (284 ≤ length out.old)) }
-    ensures { PollsTaken k time s slots.old slots.new memory.old memory.new out.old
+    requires { 284 ≤ length out.old }
+    ensures { PollsTaken k.at time s slots.old slots.new memory.old memory.new out.old
         out.new result }
 {
     let from = table::alignment_at(slots, k);
@@ -32,18 +32,17 @@ fn poll_taken(
 
 pub fn poll(
     s: Server,
-    slots: &mut [usize],
-    memory: &mut [u8],
-    k: usize,
+    slots: &mut Slots,
+    memory: &mut Storage,
+    slot: usize,
     time: u32,
     out: &mut [u8],
 ) -> Answer
-    requires { (length slots.old ≡ table_size) × (length memory.old ≡ memory_size) }
-    ensures { StepsOut (events.poll k time (length out.old)) s slots.old slots.new memory.old
+    ensures { StepsOut (events.poll slot time (length out.old)) s slots.old slots.new memory.old
         memory.new out.old out.new result }
 {
-    match answers::poll_code(s, slots, k, time, out.len()) {
-        Outcome::Refused(f) => answers::refuse(s, f),
-        Outcome::Taken => poll_taken(s, slots, memory, k, time, out),
+    match answers::poll_code(s, slots, slot, time, out.len()) {
+        Err(f) => answers::refuse(s, f),
+        Ok(k) => poll_taken(s, slots, memory, k, time, out),
     }
 }

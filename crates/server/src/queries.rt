@@ -1,55 +1,51 @@
 // What a host may ask of a server and its memory. A slot above 7 is as one with no peer, a row above 63 as a free one.
-ghost use Rattle.std.specs.Prelude.{◌≡◌, List, ℕ, length};
+ghost use Rattle.std.specs.Prelude.{◌≡◌, List, ℕ, length, is_some, IfSome};
 ghost use Rattle.rules.specs.Server as rules;
 ghost use Rattle.rules.specs.Server.{is_used, waits_for, row_at};
-ghost use Rattle.memory.specs.Layout.{memory_size};
-ghost use Rattle.table.specs.Words.{table_size};
 ghost use Rattle.memory.specs.Memory.{rows_in};
 ghost use Rattle.slots.specs.State.{slot_of};
 ghost use Rattle.slots.specs.declared.state.Server as declared;
 ghost use Rattle.server.specs.State.{server_of};
 ghost use Rattle.server.specs.Queries.{entry_shown, value_shown, report_of, reported};
+ghost use Rattle.slots.specs.declared.state.Slot.{Slot};
 
-use memory::{marks, requests, rows};
-use protocol::{Alignment, CsaNumber, HelloState, Role};
+use memory::rows::RowIndex;
+use memory::{Storage, marks, requests, rows};
+use protocol::{Alignment, CsaNumber, HelloState, Index, Role};
 use slots::answers::Failure;
 use slots::state;
 use slots::state::Slot;
+use table::Slots;
 
 // ---- a slot
-fn slot_of(slots: &[usize], slot: usize) -> Slot
-    requires { length slots.now ≡ table_size }
+fn slot_of(slots: &Slots, slot: usize) -> Slot
     ensures { (s : declared.Server) (memory : List ℕ) → slot_of result (rules.slot_at (server_of s slots.now memory) slot).requests
         (rules.slot_at (server_of s slots.now memory) slot).kept ≡ rules.slot_at (server_of s slots.now memory) slot }
 {
-    if slot < 8 {
-        return table::slot_at(slots, slot);
+    match Index::new(slot) {
+        Some(k) => table::slot_at(slots, k),
+        None => state::fresh_slot(),
     }
-    state::fresh_slot()
 }
 
-pub fn hello_of(slots: &[usize; 200], slot: usize) -> HelloState
+// A function for each thing that a host may ask: its contract names that part of the server.
+pub fn hello_of(slots: &Slots, slot: usize) -> HelloState
     ensures { (s : declared.Server) (memory : List ℕ) → result ≡ (rules.slot_at (server_of s slots.now memory) slot).link.hello }
 {
-    let x = slot_of(slots, slot);
-    let l = x.link;
-    l.hello
+    slot_of(slots, slot).link.hello
 }
 
-pub fn alignment_of(slots: &[usize; 200], slot: usize) -> Alignment
+pub fn alignment_of(slots: &Slots, slot: usize) -> Alignment
     ensures { (s : declared.Server) (memory : List ℕ) → result ≡ (rules.slot_at (server_of s slots.now memory) slot).link.alignment }
 {
-    let x = slot_of(slots, slot);
-    let l = x.link;
-    l.alignment
+    slot_of(slots, slot).link.alignment
 }
 
 // How many wanted entries found no room in the slot's request list.
-pub fn missed_of(slots: &[usize; 200], slot: usize) -> u16
+pub fn missed_of(slots: &Slots, slot: usize) -> u16
     ensures { (s : declared.Server) (memory : List ℕ) → result ≡ (rules.slot_at (server_of s slots.now memory) slot).missed }
 {
-    let x = slot_of(slots, slot);
-    x.missed
+    slot_of(slots, slot).missed
 }
 
 // The state of a slot, and beside it how many update requests were written at polls since it last entered Negotiate, up to 65535, and how many
@@ -63,120 +59,111 @@ pub struct SlotState {
     pub missed: u16,
 }
 
-#[derive(Clone, Copy)]
-pub enum Status {
-    Refused(Failure),
-    Shown(SlotState),
-}
-
-pub fn status_of(slots: &[usize; 200], slot: usize) -> Status
+pub fn status_of(slots: &Slots, slot: usize) -> Result<SlotState, Failure>
     ensures { (s : declared.Server) (memory : List ℕ) → reported result ≡ report_of (server_of s slots.now memory) slot }
 {
     let x = slot_of(slots, slot);
     if !x.used {
-        return Status::Refused(Failure::NoPeer);
+        return Err(Failure::NoPeer);
     }
-    let l = x.link;
-    let hello = l.hello;
-    let alignment = l.alignment;
-    let role = l.role;
-    Status::Shown(SlotState {
-        hello,
-        alignment,
-        role,
+    Ok(SlotState {
+        hello: x.link.hello,
+        alignment: x.link.alignment,
+        role: x.link.role,
         updates: x.updates,
         missed: x.missed,
     })
 }
 
 // How many requests the slot holds.
-pub fn requests_of(memory: &[u8; 21504], slot: usize) -> usize
-    ensures { (s : declared.Server) (slots : List ℕ) → result ≡ length (rules.slot_at (server_of s slots memory.now) slot).requests }
+pub fn requests_of(memory: &Storage, slot: usize) -> usize
+    ensures { (s : declared.Server) (slots : List Slot) → result ≡ length (rules.slot_at (server_of s slots memory.now) slot).requests }
 {
-    if slot < 8 {
-        return requests::count(memory, slot);
+    match Index::new(slot) {
+        Some(k) => requests::count(memory, k),
+        None => 0,
     }
-    0
 }
 
 // ---- the rows
 // How many rows are in use.
-pub fn rows_used(memory: &[u8; 21504]) -> usize
+pub fn rows_used(memory: &Storage) -> usize
     ensures { result ≡ rules.rows_used (rows_in memory.now) }
 {
     rows::rows_used(memory)
 }
 
-pub fn is_used(memory: &[u8; 21504], row: usize) -> bool
+// The index of a row that is in use.
+fn used_row(memory: &Storage, row: usize) -> Option<RowIndex>
+    ensures used { is_some result ≡ is_used (row_at (rows_in memory.now) row) }
+    ensures index { IfSome result (λ i. i.at ≡ row) }
+{
+    match Index::new(row) {
+        Some(i) if rows::is_used(memory, i) => Some(i),
+        _ => None,
+    }
+}
+
+pub fn is_used(memory: &Storage, row: usize) -> bool
     ensures { result ≡ is_used (row_at (rows_in memory.now) row) }
 {
-    if row < 64 {
-        return rows::is_used(memory, row);
-    }
-    false
+    used_row(memory, row).is_some()
 }
 
-pub fn key_of(memory: &[u8; 21504], row: usize) -> &[u8]
+pub fn key_of(memory: &Storage, row: usize) -> &[u8]
     ensures { result.now ≡ (entry_shown (row_at (rows_in memory.now) row)).key }
 {
-    if is_used(memory, row) {
-        return rows::key_of(memory, row);
+    match used_row(memory, row) {
+        Some(i) => rows::key_of(memory, i),
+        None => &[],
     }
-    octets::first(memory, 0)
 }
 
-pub fn originator_of(memory: &[u8; 21504], row: usize) -> &[u8]
+pub fn originator_of(memory: &Storage, row: usize) -> &[u8]
     ensures { result.now ≡ (entry_shown (row_at (rows_in memory.now) row)).originator }
 {
-    if is_used(memory, row) {
-        return rows::originator_of(memory, row);
+    match used_row(memory, row) {
+        Some(i) => rows::originator_of(memory, i),
+        None => &[],
     }
-    octets::first(memory, 0)
 }
 
-pub fn number_of(memory: &[u8; 21504], row: usize) -> CsaNumber
+pub fn number_of(memory: &Storage, row: usize) -> CsaNumber
     ensures { result ≡ (value_shown (row_at (rows_in memory.now) row)).number }
 {
-    if is_used(memory, row) {
-        return rows::number_of(memory, row);
+    match used_row(memory, row) {
+        Some(i) => rows::number_of(memory, i),
+        None => CsaNumber(0),
     }
-    CsaNumber(0)
 }
 
-pub fn payload_of(memory: &[u8; 21504], row: usize) -> &[u8]
+pub fn payload_of(memory: &Storage, row: usize) -> &[u8]
     ensures { result.now ≡ (value_shown (row_at (rows_in memory.now) row)).payload }
 {
-    if is_used(memory, row) {
-        return rows::payload_of(memory, row);
+    match used_row(memory, row) {
+        Some(i) => rows::payload_of(memory, i),
+        None => &[],
     }
-    octets::first(memory, 0)
 }
 
-pub fn remaining_of(memory: &[u8; 21504], row: usize) -> u16
+pub fn remaining_of(memory: &Storage, row: usize) -> u16
     ensures { result ≡ (value_shown (row_at (rows_in memory.now) row)).remaining }
 {
-    if is_used(memory, row) {
-        return rows::remaining_of(memory, row);
+    match used_row(memory, row) {
+        Some(i) => rows::remaining_of(memory, i),
+        None => 0,
     }
-    0
-}
-
-fn waits_in(memory: &[u8], row: usize, slot: usize) -> bool
-    requires { length memory.now ≡ memory_size }
-    ensures { result ≡ waits_for slot (row_at (rows_in memory.now) row) }
-{
-    if 64 <= row {
-        return false;
-    }
-    if 8 <= slot {
-        return false;
-    }
-    marks::waits(memory, row, slot)
 }
 
 // Whether the row waits for the slot.
-pub fn waits(memory: &[u8; 21504], row: usize, slot: usize) -> bool
+pub fn waits(memory: &Storage, row: usize, slot: usize) -> bool
     ensures { result ≡ waits_for slot (row_at (rows_in memory.now) row) }
 {
-    waits_in(memory, row, slot)
+    let Some(i) = Index::new(row) else {
+        return false;
+    };
+    let Some(k) = Index::new(slot) else {
+        return false;
+    };
+    marks::waits(memory, i, k)
 }

@@ -1,10 +1,8 @@
 -- Document 01, 'Answers to an event': the number of each case.
 -- Assumes nothing.
-use Rattle.std.specs.Prelude.{ℕ}
+use Rattle.std.specs.Prelude.{ℕ, Result, Ok, Err}
 use Rattle.slots.specs.declared.answers.Failure.{Failure}
 use Rattle.slots.specs.declared.answers.Failure.TheVariants as failure
-use Rattle.slots.specs.declared.answers.Outcome.{Outcome}
-use Rattle.slots.specs.declared.answers.Outcome.TheVariants.{Taken, Refused}
 
 abbrev pub failure_number : Failure → ℕ
 failure_number failure.NoPeer = 1
@@ -26,6 +24,12 @@ failure_number failure.NumberSpent = 16
 failure_number failure.Size = 17
 failure_number failure.NoEntry = 18
 
-abbrev pub code_number : Outcome → ℕ
-code_number Taken = 0
-code_number (Refused f) = failure_number f
+-- 0 for an event that is taken
+abbrev pub code_number : {A : Type 0} → Result A Failure → ℕ
+code_number (Ok _) = 0
+code_number (Err f) = failure_number f
+
+-- how many octets an event wrote: none where it is refused
+abbrev pub written_of : Result ℕ Failure → ℕ
+written_of (Ok n) = n
+written_of (Err _) = 0

@@ -1,7 +1,6 @@
 // The server beside its memory, and what events do to a slot. The request list and the kept CA of a slot are in the memory.
 ghost use Rattle.std.specs.Prelude.{◌≡◌, List, [], ℕ};
 ghost use Rattle.laws.specs.Lists.{is_empty};
-ghost use Rattle.protocol.specs.declared.Last.TheVariants.{At};
 ghost use Rattle.rules.specs.Server as server;
 ghost use Rattle.rules.specs.Server.{Request, fresh_slot};
 ghost use Rattle.rules.specs.Links as links;
@@ -10,7 +9,7 @@ ghost use Rattle.rules.specs.Events.{peer_slot};
 ghost use Rattle.slots.specs.State.{slot_of, empty_if};
 
 use crate::alignment;
-use protocol::{Alignment, CaFlags, CaHead, CaNumber, HelloState, Last, Link, Role, Timers};
+use protocol::{Alignment, CaFlags, CaHead, CaNumber, HelloState, Link, Role, Timers};
 
 // Own ID, the two group numbers, our HelloInterval and DeadFactor.
 #[derive(Clone, Copy)]
@@ -24,6 +23,7 @@ pub struct Settings {
 
 // A peer slot. `listed` is the row that the next CA answer goes on from, `cursor` the row that the next update request does,
 // `updates` how many update requests were written at polls since the slot last entered Negotiate, up to 65535 (document 02, L1).
+// `used` beside `peer`, and no Option: `Slot` of the rules has both, and `slot_of` maps field to field.
 #[derive(Clone, Copy)]
 pub struct Slot {
     pub used: bool,
@@ -52,10 +52,6 @@ fn fresh_link() -> Link
         initial: false,
         more: false,
     };
-    let last = CaHead {
-        number: CaNumber(0),
-        flags,
-    };
     Link {
         hello: HelloState::Down,
         heard: 0,
@@ -64,7 +60,10 @@ fn fresh_link() -> Link
         alignment: Alignment::Down,
         role: Role::Master,
         number: CaNumber(0),
-        last,
+        last: CaHead {
+            number: CaNumber(0),
+            flags,
+        },
         more: false,
     }
 }
@@ -73,23 +72,21 @@ fn no_timers() -> Timers
     ensures { result ≡ server.no_timers }
 {
     Timers {
-        hello: Last::Never,
-        ca: Last::Never,
-        csus: Last::Never,
-        update: Last::Never,
+        hello: None,
+        ca: None,
+        csus: None,
+        update: None,
     }
 }
 
 pub fn fresh_slot() -> Slot
     ensures { slot_of result [] [] ≡ fresh_slot }
 {
-    let link = fresh_link();
-    let timers = no_timers();
     Slot {
         used: false,
         peer: [0; 4],
-        link,
-        timers,
+        link: fresh_link(),
+        timers: no_timers(),
         listed: 0,
         cursor: 0,
         missed: 0,
@@ -100,17 +97,10 @@ pub fn fresh_slot() -> Slot
 pub fn peer_slot(id: [u8; 4]) -> Slot
     ensures { slot_of result [] [] ≡ peer_slot id }
 {
-    let link = fresh_link();
-    let timers = no_timers();
     Slot {
         used: true,
         peer: id,
-        link,
-        timers,
-        listed: 0,
-        cursor: 0,
-        missed: 0,
-        updates: 0,
+        ..fresh_slot()
     }
 }
 
@@ -118,44 +108,31 @@ pub fn peer_slot(id: [u8; 4]) -> Slot
 pub fn with_link(x: Slot, l: Link) -> Slot
     ensures { (qs : List Request) (kept : List ℕ) → slot_of result qs kept ≡ rules.with_link l (slot_of x qs kept) }
 {
-    let mut y = x;
-    y.link = l;
-    y
+    Slot { link: l, ..x }
 }
 
+// One field each, and a definition of the rules each: a setter by field name would be no shorter.
 pub fn with_missed(x: Slot, missed: u16) -> Slot
     ensures { (qs ps : List Request) (kept : List ℕ) → slot_of result qs kept ≡ rules.with_requests qs missed (slot_of x ps kept) }
 {
-    let mut y = x;
-    y.missed = missed;
-    y
+    Slot { missed, ..x }
 }
 
 pub fn with_listed(x: Slot, listed: usize) -> Slot
     ensures { (qs : List Request) (kept : List ℕ) → slot_of result qs kept ≡ rules.with_listed listed (slot_of x qs kept) }
 {
-    let mut y = x;
-    y.listed = listed;
-    y
+    Slot { listed, ..x }
 }
 
 // ---- when packets were sent
 pub fn ca_sent(x: Slot, now: u32) -> Slot
     ensures { (qs : List Request) (kept : List ℕ) → slot_of result qs kept ≡ rules.ca_sent now (slot_of x qs kept) }
 {
-    let old = x.timers;
-    let hello = old.hello;
-    let csus = old.csus;
-    let update = old.update;
     let timers = Timers {
-        hello,
-        ca: Last::At(now),
-        csus,
-        update,
+        ca: Some(now),
+        ..x.timers
     };
-    let mut y = x;
-    y.timers = timers;
-    y
+    Slot { timers, ..x }
 }
 
 // ---- its link moved
@@ -164,11 +141,8 @@ fn updates_in(a: Alignment, n: u16) -> u16
     ensures { result ≡ rules.updates_in a n }
 {
     match a {
-        Alignment::Down => n,
         Alignment::Negotiate => 0,
-        Alignment::Summarize(_) => n,
-        Alignment::Update => n,
-        Alignment::Aligned => n,
+        _ => n,
     }
 }
 
@@ -176,24 +150,18 @@ fn updates_in(a: Alignment, n: u16) -> u16
 fn emptied(x: Slot) -> Slot
     ensures { (qs : List Request) (kept : List ℕ) → slot_of result [] [] ≡ rules.emptied (slot_of x qs kept) }
 {
-    let old = x.timers;
-    let hello = old.hello;
     let timers = Timers {
-        hello,
-        ca: Last::Never,
-        csus: Last::Never,
-        update: Last::Never,
+        hello: x.timers.hello,
+        ..no_timers()
     };
-    let l = x.link;
-    let a = l.alignment;
-    let updates = updates_in(a, x.updates);
-    let mut y = x;
-    y.timers = timers;
-    y.listed = 0;
-    y.cursor = 0;
-    y.missed = 0;
-    y.updates = updates;
-    y
+    Slot {
+        timers,
+        listed: 0,
+        cursor: 0,
+        missed: 0,
+        updates: updates_in(x.link.alignment, x.updates),
+        ..x
+    }
 }
 
 // The slot with its link moved. Where it enters Down or Negotiate, its list and its kept CA are to be emptied.
@@ -201,20 +169,24 @@ pub fn moved(x: Slot, l: Link) -> Slot
     ensures { (qs : List Request) (kept : List ℕ) → slot_of result (empty_if (links.enters x.link.alignment l.alignment) qs)
         (empty_if (links.enters x.link.alignment l.alignment) kept) ≡ rules.moved l (slot_of x qs kept) }
 {
-    let old = x.link;
-    let a = old.alignment;
-    let b = l.alignment;
     let y = with_link(x, l);
-    if alignment::enters(a, b) {
-        return emptied(y);
+    if alignment::enters(x.link.alignment, l.alignment) {
+        emptied(y)
+    } else {
+        y
     }
-    y
 }
 
 // Update with an empty request list becomes Aligned.
 pub fn completed(x: Slot, none: bool) -> Slot
     ensures { (qs : List Request) (kept : List ℕ) → is_empty qs ≡ none → slot_of result qs kept ≡ rules.completed (slot_of x qs kept) }
 {
-    let l = x.link;
-    with_link(x, alignment::aligned_if(none, l))
+    let alignment = alignment::completed(none, x.link.alignment);
+    with_link(
+        x,
+        Link {
+            alignment,
+            ..x.link
+        },
+    )
 }

@@ -1,174 +1,127 @@
-// One part of a slot, read or put without the rest.
-ghost use Rattle.std.specs.Prelude.{◌≡◌, ◌<◌, length};
+// One part of a slot, read or put where it stands. Each has a name of its own because its contract speaks of another field of the rules' slot.
+ghost use Rattle.std.specs.Prelude.{◌≡◌};
 ghost use Rattle.rules.specs.Links as links;
 ghost use Rattle.rules.specs.Slots as rules;
-ghost use Rattle.table.specs.Words.{table_size, slot_words, slot_in, PutsWord, Changes, with_heard, with_interval, with_factor};
+ghost use Rattle.table.specs.Slots.{slot_in, Changes};
 
-use crate::words;
-use protocol::{Alignment, CaNumber, HelloState, Last};
+use crate::Slots;
+use protocol::{Alignment, CaNumber, HelloState, SlotIndex};
 
 // ---- read
-pub fn heard_at(t: &[usize], k: usize) -> u32
-    requires { (length t.now ≡ table_size) × (k < 8) }
-    ensures { result ≡ (slot_in t.now k).link.heard }
+pub fn heard_at(t: &Slots, k: SlotIndex) -> u32
+    ensures { result ≡ (slot_in t.now k.at).link.heard }
 {
-    words::number(t[k * 25 + 6])
+    t[k.at].link.heard
 }
 
-pub fn interval_at(t: &[usize], k: usize) -> u16
-    requires { (length t.now ≡ table_size) × (k < 8) }
-    ensures { result ≡ (slot_in t.now k).link.interval }
+pub fn interval_at(t: &Slots, k: SlotIndex) -> u16
+    ensures { result ≡ (slot_in t.now k.at).link.interval }
 {
-    words::short(t[k * 25 + 7])
+    t[k.at].link.interval
 }
 
-pub fn factor_at(t: &[usize], k: usize) -> u16
-    requires { (length t.now ≡ table_size) × (k < 8) }
-    ensures { result ≡ (slot_in t.now k).link.factor }
+pub fn factor_at(t: &Slots, k: SlotIndex) -> u16
+    ensures { result ≡ (slot_in t.now k.at).link.factor }
 {
-    words::short(t[k * 25 + 8])
+    t[k.at].link.factor
 }
 
-pub fn number_at(t: &[usize], k: usize) -> CaNumber
-    requires { (length t.now ≡ table_size) × (k < 8) }
-    ensures { result ≡ (slot_in t.now k).link.number }
+pub fn number_at(t: &Slots, k: SlotIndex) -> CaNumber
+    ensures { result ≡ (slot_in t.now k.at).link.number }
 {
-    CaNumber(words::number(t[k * 25 + 11]))
+    t[k.at].link.number
 }
 
-pub fn hello_sent_at(t: &[usize], k: usize) -> Last
-    requires { (length t.now ≡ table_size) × (k < 8) }
-    ensures { result ≡ (slot_in t.now k).timers.hello }
+pub fn hello_sent_at(t: &Slots, k: SlotIndex) -> Option<u32>
+    ensures { result ≡ (slot_in t.now k.at).timers.hello }
 {
-    words::last_sent(t[k * 25 + 17])
+    t[k.at].timers.hello
 }
 
-pub fn ca_sent_at(t: &[usize], k: usize) -> Last
-    requires { (length t.now ≡ table_size) × (k < 8) }
-    ensures { result ≡ (slot_in t.now k).timers.ca }
+pub fn ca_sent_at(t: &Slots, k: SlotIndex) -> Option<u32>
+    ensures { result ≡ (slot_in t.now k.at).timers.ca }
 {
-    words::last_sent(t[k * 25 + 18])
+    t[k.at].timers.ca
 }
 
-pub fn csus_sent_at(t: &[usize], k: usize) -> Last
-    requires { (length t.now ≡ table_size) × (k < 8) }
-    ensures { result ≡ (slot_in t.now k).timers.csus }
+pub fn csus_sent_at(t: &Slots, k: SlotIndex) -> Option<u32>
+    ensures { result ≡ (slot_in t.now k.at).timers.csus }
 {
-    words::last_sent(t[k * 25 + 19])
+    t[k.at].timers.csus
 }
 
-pub fn update_sent_at(t: &[usize], k: usize) -> Last
-    requires { (length t.now ≡ table_size) × (k < 8) }
-    ensures { result ≡ (slot_in t.now k).timers.update }
+pub fn update_sent_at(t: &Slots, k: SlotIndex) -> Option<u32>
+    ensures { result ≡ (slot_in t.now k.at).timers.update }
 {
-    words::last_sent(t[k * 25 + 20])
+    t[k.at].timers.update
 }
 
-pub fn cursor_at(t: &[usize], k: usize) -> u32
-    requires { (length t.now ≡ table_size) × (k < 8) }
-    ensures { result ≡ (slot_in t.now k).cursor }
+pub fn cursor_at(t: &Slots, k: SlotIndex) -> u32
+    ensures { result ≡ (slot_in t.now k.at).cursor }
 {
-    words::number(t[k * 25 + 22])
+    t[k.at].cursor
 }
 
-pub fn updates_at(t: &[usize], k: usize) -> u16
-    requires { (length t.now ≡ table_size) × (k < 8) }
-    ensures { result ≡ (slot_in t.now k).updates }
+pub fn updates_at(t: &Slots, k: SlotIndex) -> u16
+    ensures { result ≡ (slot_in t.now k.at).updates }
 {
-    words::short(t[k * 25 + 24])
+    t[k.at].updates
 }
 
 // ---- put
-fn put_word(t: &mut [usize], k: usize, n: usize, w: usize)
-    requires { (length t.old ≡ table_size) × ((k < 8) × (n < slot_words)) }
-    ensures { PutsWord k n w t.old t.new }
+pub fn put_hello_sent(t: &mut Slots, k: SlotIndex, last: Option<u32>)
+    ensures { Changes k.at (rules.hello_sent last) t.old t.new }
 {
-    t[k * 25 + n] = w;
+    t[k.at].timers.hello = last;
 }
 
-pub fn put_hello_sent(t: &mut [usize], k: usize, last: Last)
-    requires { (length t.old ≡ table_size) × (k < 8) }
-    ensures { Changes k (rules.hello_sent last) t.old t.new }
+pub fn put_ca_sent(t: &mut Slots, k: SlotIndex, time: u32)
+    ensures { Changes k.at (rules.ca_sent time) t.old t.new }
 {
-    put_word(t, k, 17, words::of_last(last))
+    t[k.at].timers.ca = Some(time);
 }
 
-pub fn put_ca_sent(t: &mut [usize], k: usize, time: u32)
-    requires { (length t.old ≡ table_size) × (k < 8) }
-    ensures { Changes k (rules.ca_sent time) t.old t.new }
+pub fn put_csus_sent(t: &mut Slots, k: SlotIndex, time: u32)
+    ensures { Changes k.at (rules.csus_sent time) t.old t.new }
 {
-    put_word(t, k, 18, words::of_last(Last::At(time)))
+    t[k.at].timers.csus = Some(time);
 }
 
-pub fn put_csus_sent(t: &mut [usize], k: usize, time: u32)
-    requires { (length t.old ≡ table_size) × (k < 8) }
-    ensures { Changes k (rules.csus_sent time) t.old t.new }
+pub fn put_update_sent(t: &mut Slots, k: SlotIndex, time: u32)
+    ensures { Changes k.at (rules.update_sent time) t.old t.new }
 {
-    put_word(t, k, 19, words::of_last(Last::At(time)))
+    t[k.at].timers.update = Some(time);
 }
 
-pub fn put_update_sent(t: &mut [usize], k: usize, time: u32)
-    requires { (length t.old ≡ table_size) × (k < 8) }
-    ensures { Changes k (rules.update_sent time) t.old t.new }
+pub fn put_cursor(t: &mut Slots, k: SlotIndex, cursor: u32)
+    ensures { Changes k.at (rules.with_cursor cursor) t.old t.new }
 {
-    put_word(t, k, 20, words::of_last(Last::At(time)))
+    t[k.at].cursor = cursor;
 }
 
-pub fn put_cursor(t: &mut [usize], k: usize, cursor: u32)
-    requires { (length t.old ≡ table_size) × (k < 8) }
-    ensures { Changes k (rules.with_cursor cursor) t.old t.new }
+pub fn put_updates(t: &mut Slots, k: SlotIndex, n: u16)
+    ensures { Changes k.at (rules.with_updates n) t.old t.new }
 {
-    put_word(t, k, 22, words::of_number(cursor))
+    t[k.at].updates = n;
 }
 
-pub fn put_updates(t: &mut [usize], k: usize, n: u16)
-    requires { (length t.old ≡ table_size) × (k < 8) }
-    ensures { Changes k (rules.with_updates n) t.old t.new }
+pub fn put_alignment(t: &mut Slots, k: SlotIndex, a: Alignment)
+    ensures { Changes k.at (λ x. rules.with_link (links.with_alignment a x.link) x) t.old t.new }
 {
-    put_word(t, k, 24, words::of_short(n))
+    t[k.at].link.alignment = a;
 }
 
-pub fn put_alignment(t: &mut [usize], k: usize, a: Alignment)
-    requires { (length t.old ≡ table_size) × (k < 8) }
-    ensures { Changes k (λ x. rules.with_link (links.with_alignment a x.link) x) t.old t.new }
+pub fn put_hello(t: &mut Slots, k: SlotIndex, h: HelloState)
+    ensures { Changes k.at (λ x. rules.with_link (links.with_hello h x.link) x) t.old t.new }
 {
-    put_word(t, k, 9, words::of_alignment(a))
-}
-
-pub fn put_hello(t: &mut [usize], k: usize, h: HelloState)
-    requires { (length t.old ≡ table_size) × (k < 8) }
-    ensures { Changes k (λ x. rules.with_link (links.with_hello h x.link) x) t.old t.new }
-{
-    put_word(t, k, 5, words::of_hello(h))
-}
-
-fn put_time(t: &mut [usize], k: usize, time: u32)
-    requires { (length t.old ≡ table_size) × (k < 8) }
-    ensures { Changes k (with_heard time) t.old t.new }
-{
-    put_word(t, k, 6, words::of_number(time))
-}
-
-fn put_interval(t: &mut [usize], k: usize, interval: u16)
-    requires { (length t.old ≡ table_size) × (k < 8) }
-    ensures { Changes k (with_interval interval) t.old t.new }
-{
-    put_word(t, k, 7, words::of_short(interval))
-}
-
-fn put_factor(t: &mut [usize], k: usize, factor: u16)
-    requires { (length t.old ≡ table_size) × (k < 8) }
-    ensures { Changes k (with_factor factor) t.old t.new }
-{
-    put_word(t, k, 8, words::of_short(factor))
+    t[k.at].link.hello = h;
 }
 
 // What a taken Hello records.
-pub fn put_heard(t: &mut [usize], k: usize, time: u32, interval: u16, factor: u16)
-    requires { (length t.old ≡ table_size) × (k < 8) }
-    ensures { Changes k (λ x. rules.with_link (links.recorded time interval factor x.link) x) t.old t.new }
+pub fn put_heard(t: &mut Slots, k: SlotIndex, time: u32, interval: u16, factor: u16)
+    ensures { Changes k.at (λ x. rules.with_link (links.recorded time interval factor x.link) x) t.old t.new }
 {
-    put_time(t, k, time);
-    put_interval(t, k, interval);
-    put_factor(t, k, factor);
+    t[k.at].link.heard = time;
+    t[k.at].link.interval = interval;
+    t[k.at].link.factor = factor;
 }

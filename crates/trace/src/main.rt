@@ -4,26 +4,21 @@
 
 ghost use Rattle.std.specs.Prelude.{◌≡◌, ◌+◌, ◌*◌, ◌≤◌, length};
 
+use memory::Storage;
 use protocol::{Alignment, HelloState, Role};
 use server::answers::Answer;
 use server::queries;
-use server::queries::{SlotState, Status};
+use server::queries::SlotState;
+use slots::answers::Failure;
 use slots::state::Server;
-
-fn hex_digit(n: u8) -> u8
-    requires { n ≤ 15 }
-{
-    if n < 10 {
-        return 48 + n;
-    }
-    87 + n
-}
+use table::Slots;
 
 fn put_octet(text: &mut [u8], at: usize, x: u8)
     requires { at + 2 ≤ length text.old }
 {
-    text[at] = hex_digit(x / 16);
-    text[at + 1] = hex_digit(x % 16);
+    let digits = b"0123456789abcdef";
+    text[at] = digits[x as usize / 16];
+    text[at + 1] = digits[x as usize % 16];
 }
 
 // The octets in hexadecimal, `-` for none, and a space: the place behind them.
@@ -31,17 +26,13 @@ fn put_octets(text: &mut [u8], from: usize, p: &[u8]) -> usize
     requires { from + (length p.now * 2 + 2) ≤ length text.old }
     ensures { result ≤ from + (length p.now * 2 + 2) }
 {
-    if p.len() == 0 {
-        text[from] = 45;
-        text[from + 1] = 32;
-        return from + 2;
+    if p.is_empty() {
+        return octets::put(text, from, b"- ");
     }
     let mut at = from;
-    let mut i: usize = 0;
-    while i < p.len() {
-        put_octet(text, at, p[i]);
+    for x in p {
+        put_octet(text, at, *x);
         at += 2;
-        i += 1;
     }
     text[at] = 32;
     at + 1
@@ -61,6 +52,7 @@ fn put_numbers(text: &mut [u8], number: u64, code: u8, written: usize, used: usi
 }
 
 // ---- a slot's state
+// The numbers of the reference's lines, which are not the enums' own: a `match` each.
 fn hello_number(h: HelloState) -> u64 {
     match h {
         HelloState::Down => 0,
@@ -89,22 +81,19 @@ fn role_number(r: Role) -> u64 {
 
 // There is no role before Summarize.
 fn role_in(a: Alignment, r: Role) -> u64 {
-    if alignment_number(a) < 2 {
-        return 0;
+    match a {
+        Alignment::Down | Alignment::Negotiate => 0,
+        _ => role_number(r),
     }
-    role_number(r)
 }
 
 fn put_states(text: &mut [u8], at: usize, x: SlotState) -> usize
     requires { at + 63 ≤ length text.old }
     ensures { result ≤ at + 63 }
 {
-    let hello = x.hello;
-    let alignment = x.alignment;
-    let role = x.role;
-    let second = lines::text::put_number(text, at, hello_number(hello), 32);
-    let third = lines::text::put_number(text, second, alignment_number(alignment), 32);
-    lines::text::put_number(text, third, role_in(alignment, role), 32)
+    let second = lines::text::put_number(text, at, hello_number(x.hello), 32);
+    let third = lines::text::put_number(text, second, alignment_number(x.alignment), 32);
+    lines::text::put_number(text, third, role_in(x.alignment, x.role), 32)
 }
 
 fn put_counts(text: &mut [u8], at: usize, x: SlotState) -> usize
@@ -116,13 +105,13 @@ fn put_counts(text: &mut [u8], at: usize, x: SlotState) -> usize
 }
 
 // Hello and alignment state, role, update requests, missed; `-` for no peer; and a line end.
-fn put_state(text: &mut [u8], at: usize, s: Status) -> usize
+fn put_state(text: &mut [u8], at: usize, s: Result<SlotState, Failure>) -> usize
     requires { at + 105 ≤ length text.old }
     ensures { result ≤ at + 105 }
 {
     match s {
-        Status::Refused(_) => octets::put(text, at, &[45u8, 10]),
-        Status::Shown(x) => {
+        Err(_) => octets::put(text, at, b"-\n"),
+        Ok(x) => {
             let behind = put_states(text, at, x);
             put_counts(text, behind, x)
         }
@@ -136,79 +125,71 @@ fn put_answer(
     a: Answer,
     used: usize,
     out: &[u8],
-    state: Status,
+    state: Result<SlotState, Failure>,
 ) -> usize
     requires { (length text.old ≡ 1024) × (length out.now ≡ 284) }
     ensures { result ≤ 1024 }
 {
-    let outcome = a.outcome;
-    let code = slots::answers::code(outcome);
-    let n = put_numbers(text, number, code, a.written, used);
-    let at = put_octets(text, n, octets::first(out, a.written));
+    let written = a.outcome.unwrap_or(0);
+    let n = put_numbers(text, number, slots::answers::code(a.outcome), written, used);
+    let at = put_octets(text, n, octets::first(out, written));
     put_state(text, at, state)
 }
 
-fn line(number: u64, a: Answer, memory: &[u8; 21504], out: &[u8; 284], state: Status) {
+fn line(
+    number: u64,
+    a: Answer,
+    memory: &Storage,
+    out: &[u8; 284],
+    state: Result<SlotState, Failure>,
+) {
     let mut text = [0u8; 1024];
     let used = queries::rows_used(memory);
     let end = put_answer(&mut text, number, a, used, out, state);
     io::write_all(1, &text[..end]);
 }
 
-fn record(
-    s: Server,
-    slots: &mut [usize; 200],
-    memory: &mut [u8; 21504],
-    r: &[u8],
-    number: u64,
-) -> Server {
+fn record(s: Server, slots: &mut Slots, memory: &mut Storage, r: &[u8], number: u64) -> Server {
     let mut out = [0u8; 284];
     let a = lines::take::take(s, slots, memory, r, &mut out);
-    let state = queries::status_of(slots, octets::octet(r, 1) as usize);
+    let state = queries::status_of(slots, lines::record::slot(r));
     line(number, a, memory, &out, state);
     a.server
 }
 
-fn records(s: Server, slots: &mut [usize; 200], memory: &mut [u8; 21504], count: u32) {
+fn records(s: Server, slots: &mut Slots, memory: &mut Storage, count: u32) {
     let mut input = [0u8; 292];
     let mut x = s;
-    let mut i: u32 = 1;
-    while i < count {
-        let n = io::read_full(0, &mut input);
-        if n < 292 {
+    for i in 1..count {
+        if io::read_full(0, &mut input) < 292 {
             return;
         }
         x = record(x, slots, memory, &input, i as u64);
-        i += 1;
     }
 }
 
-fn list(slots: &mut [usize; 200], memory: &mut [u8; 21504], count: u32) {
+fn list(slots: &mut Slots, memory: &mut Storage, count: u32) {
     let mut input = [0u8; 292];
     let n = io::read_full(0, &mut input);
     let first = lines::take::begin(slots, memory, octets::first(&input, n));
-    let outcome = first.outcome;
-    if !slots::answers::is_taken(outcome) {
-        io::write_all(1, &[99u8, 117, 116, 10]);
+    if first.outcome.is_err() {
+        io::write_all(1, b"cut\n");
         return;
     }
     let out = [0u8; 284];
-    let state = queries::status_of(slots, octets::octet(&input, 1) as usize);
+    let state = queries::status_of(slots, lines::record::slot(&input));
     line(0, first, memory, &out, state);
     records(first.server, slots, memory, count);
 }
 
 fn main() {
-    let mut slots = [0usize; 200];
+    let mut slots = table::empty();
     let mut memory = [0u8; 21504];
     let mut head = [0u8; 4];
-    let mut turns = u64::MAX;
-    while turns > 0 {
-        let n = io::read_full(0, &mut head);
-        if n < 4 {
+    for _ in 0..u64::MAX {
+        if io::read_full(0, &mut head) < 4 {
             return;
         }
         list(&mut slots, &mut memory, octets::field4(&head, 0));
-        turns -= 1;
     }
 }

@@ -32,20 +32,19 @@ fn field(p: &[u8]) {
     print::field_line(octets::field2(p, 4), good);
 }
 
+// By the kind that the input names.
 fn entry(e: &[u8]) {
     let kind = octets::octet(e, 0);
     let p = octets::tail(e, 3);
-    if kind == 1 {
-        checksum(p);
-    }
-    if kind == 2 {
-        packet::lines(p);
-    }
-    if kind == 3 {
-        field(p);
+    match kind {
+        1 => checksum(p),
+        2 => packet::lines(p),
+        3 => field(p),
+        _ => {}
     }
 }
 
+// By hand, as each entry says its own size.
 fn entries(s: &[u8])
     requires { length s.now ≤ 65536 }
 {

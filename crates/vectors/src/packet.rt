@@ -1,13 +1,16 @@
 // The lines of a packet.
 ghost use Rattle.std.specs.Prelude.{◌≡◌, ◌≤◌};
 ghost use Rattle.protocol.specs.Layouts.{type_of};
+ghost use Rattle.protocol.specs.Reading as reading;
+ghost use Rattle.wire.specs.Views.{refusal_of};
 
 use crate::print;
 use protocol::{CaFlags, Kind};
-use wire::read::{Head, Reading};
+use wire::read::{Head, Refusal};
 use wire::record;
 use wire::record::Cursor;
 
+// The paper's number of a kind.
 fn type_number(k: Kind) -> u64
     ensures { result ≡ type_of k }
 {
@@ -20,14 +23,26 @@ fn type_number(k: Kind) -> u64
     }
 }
 
-fn code_line(code: u8) {
-    print::number(code as u64);
-    print::line_end();
+// The table's number of a refusal.
+fn refusal_number(r: Refusal) -> u64
+    ensures { result ≡ reading.refusal_of (refusal_of r) }
+{
+    match r {
+        Refusal::Length => 5,
+        Refusal::Version => 6,
+        Refusal::Type => 7,
+        Refusal::Checksum => 8,
+        Refusal::Extensions => 9,
+        Refusal::Malformed(_) => 10,
+    }
 }
 
-fn position_line(at: usize) {
-    print::text(b"10 ");
-    print::number(at as u64);
+fn refusal_line(r: Refusal) {
+    print::number(refusal_number(r));
+    if let Refusal::Malformed(at) = r {
+        print::space();
+        print::number(at as u64);
+    }
     print::line_end();
 }
 
@@ -41,8 +56,7 @@ fn head_numbers(k: Kind, protocol: u16, group: u16) {
 }
 
 fn head_line(p: &[u8], h: Head) {
-    let kind = h.kind;
-    head_numbers(kind, h.protocol, h.group);
+    head_numbers(h.kind, h.protocol, h.group);
     print::space();
     print::octets(wire::read::sender(p, h));
     print::space();
@@ -111,9 +125,7 @@ fn record_line(p: &[u8], r: usize)
 // The position of a record in a packet that was read is far below the bound.
 fn records(p: &[u8], from: Cursor) {
     let mut at = from.at;
-    let mut left = from.left;
-    while left > 0 {
-        left -= 1;
+    for _ in 0..from.left {
         if at > 1048576 {
             return;
         }
@@ -133,9 +145,7 @@ fn receiver_line(p: &[u8], at: usize)
 // As `records` is.
 fn receivers(p: &[u8], from: Cursor) {
     let mut at = from.at;
-    let mut left = from.left;
-    while left > 0 {
-        left -= 1;
+    for _ in 0..from.left {
         if at > 1048576 {
             return;
         }
@@ -144,15 +154,14 @@ fn receivers(p: &[u8], from: Cursor) {
     }
 }
 
+// By the type of the packet.
 fn body_lines(p: &[u8], k: Kind, from: Cursor) {
     match k {
         Kind::Ca => {
             ca_line(p);
             records(p, from);
         }
-        Kind::CsuRequest => records(p, from),
-        Kind::CsuReply => records(p, from),
-        Kind::Csus => records(p, from),
+        Kind::CsuRequest | Kind::CsuReply | Kind::Csus => records(p, from),
         Kind::Hello => {
             hello_line(p);
             receivers(p, from);
@@ -161,16 +170,13 @@ fn body_lines(p: &[u8], k: Kind, from: Cursor) {
 }
 
 fn head_lines(p: &[u8], h: Head) {
-    let kind = h.kind;
-    let records = h.records;
     head_line(p, h);
-    body_lines(p, kind, records);
+    body_lines(p, h.kind, h.records);
 }
 
 pub fn lines(p: &[u8]) {
     match wire::read::read(p) {
-        Reading::Refused(code) => code_line(code),
-        Reading::Malformed(at) => position_line(at),
-        Reading::Packet(h) => head_lines(p, h),
+        Ok(h) => head_lines(p, h),
+        Err(r) => refusal_line(r),
     }
 }

@@ -4,6 +4,7 @@ pub fn text(s: &[u8]) {
     io::write_all(1, s);
 }
 
+// Names for the texts that lines are made of.
 pub fn space() {
     text(b" ");
 }
@@ -21,28 +22,17 @@ pub fn number(n: u64) {
 }
 
 pub fn bit(b: bool) {
-    if b {
-        text(b"1");
-        return;
-    }
-    text(b"0");
+    number(u64::from(b));
 }
 
 // Octets in hexadecimal, '-' for none.
 pub fn octets(s: &[u8]) {
-    if s.len() == 0 {
+    if s.is_empty() {
         text(b"-");
-        return;
     }
-    let mut i = 0;
-    while i < s.len() {
-        io::print_hex(1, wide(s[i]), 2);
-        i += 1;
+    for x in s {
+        io::print_hex(1, *x as u64, 2);
     }
-}
-
-fn wide(x: u8) -> u64 {
-    x as u64
 }
 
 fn hex4(n: u32) {

@@ -1,4 +1,3 @@
 pub mod Checking
-pub mod FineLaws
 pub mod Readings
 pub mod Records

@@ -1,6 +1,6 @@
 -- What the answers of the reader mean: their numbers, with the octets of the packet at the places that they name.
 -- Assumes nothing.
-use Rattle.std.specs.Prelude.{ℕ, ◌≤◌, ◌≡◌, List}
+use Rattle.std.specs.Prelude.{ℕ, ◌≤◌, ◌≡◌, List, Result, Ok, Err}
 use Rattle.laws.specs.Lists.{part}
 use Rattle.protocol.specs.Sizes.{id_length}
 use Rattle.protocol.specs.Messages.{CsaRecord, Message}
@@ -8,8 +8,8 @@ use Rattle.protocol.specs.Reading as protocol
 use Rattle.protocol.specs.Reading.{records_at, receivers_at, body_at, read_packet}
 use Rattle.wire.specs.declared.record.Cursor.{Cursor}
 use Rattle.wire.specs.declared.read.Head.{Head}
-use Rattle.wire.specs.declared.read.Reading.{Reading}
-use Rattle.wire.specs.declared.read.Reading.TheVariants.{Refused, Malformed, Packet}
+use Rattle.wire.specs.declared.read.Refusal.{Refusal}
+use Rattle.wire.specs.declared.read.Refusal.TheVariants.{Length, Version, «Type» as Wrong-type, Checksum, Extensions, Malformed}
 
 -- ---- records and receivers
 -- the records that a cursor has before it
@@ -31,18 +31,30 @@ message_of p h = record {
   body = body_at id_length h.kind p h.records.left h.records.at;
 }
 
-abbrev pub reading_of : List ℕ → Reading → protocol.Reading
-reading_of p (Refused code) = protocol.refused code
-reading_of p (Malformed at) = protocol.malformed at
-reading_of p (Packet h) = protocol.message (message_of p h)
+-- the paper's number of each refusal, and where a malformed packet breaks a rule
+abbrev pub refusal_of : Refusal → protocol.Reading
+refusal_of Length = protocol.refused 5
+refusal_of Version = protocol.refused 6
+refusal_of Wrong-type = protocol.refused 7
+refusal_of Checksum = protocol.refused 8
+refusal_of Extensions = protocol.refused 9
+refusal_of (Malformed at) = protocol.malformed at
+
+-- the same number, 0 where the fixed part is right
+abbrev pub fixed_number : {A : Type 0} → Result A Refusal → ℕ
+fixed_number (Ok _) = 0
+fixed_number (Err e) = protocol.refusal_of (refusal_of e)
+
+abbrev pub reading_of : List ℕ → Result Head Refusal → protocol.Reading
+reading_of p (Ok h) = protocol.message (message_of p h)
+reading_of p (Err e) = refusal_of e
 
 -- where the records or receivers start
-abbrev pub start_of : Reading → ℕ
-start_of (Refused code) = 0
-start_of (Malformed at) = 0
-start_of (Packet h) = h.records.at
+abbrev pub start_of : Result Head Refusal → ℕ
+start_of (Ok h) = h.records.at
+start_of (Err e) = 0
 
 -- the answer means what the definition reads
-pub record Reads (p : List ℕ) (r : Reading) : Type 0 where
+pub record Reads (p : List ℕ) (r : Result Head Refusal) : Type 0 where
   pub means : reading_of p r ≡ read_packet id_length p
   pub near : start_of r ≤ 287

@@ -1,27 +1,20 @@
 // Whether the common part or a record is all there and right, by a test of the room and direct reads. Nearly every packet
 // is; where one is not, `check` goes field by field, for the position.
 ghost use Rattle.std.specs.Prelude.{◌≡◌, true, not, ◌||◌, ◌+◌, ◌≤◌, ◌<◌, length, eqb};
-ghost use Rattle.protocol.specs.declared.Checked.TheVariants.{Fine};
 ghost use Rattle.protocol.specs.Fields as fields;
 ghost use Rattle.protocol.specs.Sizes.{id_length};
+ghost use Rattle.protocol.specs.Checks.{Fine};
 ghost use Rattle.protocol.specs.Checks as definition;
 
 use crate::values;
 use protocol::Kind;
 
-// Fields that are all there: no test.
-fn octet_in(p: &[u8], at: usize) -> u8
-    requires { at < length p.now }
-    ensures { result ≡ fields.octet p.now at }
-{
-    p[at]
-}
-
+// Fields that are all there. Not the readers of `octets`, which test the room at each field: nearly every packet passes here.
 fn field2_in(p: &[u8], at: usize) -> u16
     requires { at + 2 ≤ length p.now }
     ensures { result ≡ fields.field2 p.now at }
 {
-    (octet_in(p, at) as u16) * 256 + (octet_in(p, at + 1) as u16)
+    (p[at] as u16) * 256 + (p[at + 1] as u16)
 }
 
 fn field4_in(p: &[u8], at: usize) -> u32
@@ -39,17 +32,11 @@ pub fn head_fine(k: Kind, p: &[u8], c: usize) -> bool
     if p.len() < c + 16 {
         return false;
     }
-    if octet_in(p, c + 8) != 4 {
-        return false;
-    }
-    let receiver = octet_in(p, c + 9);
-    if !values::receiver_length_good(k, receiver) {
-        return false;
-    }
-    if p.len() < c + 16 + receiver as usize {
-        return false;
-    }
-    field2_in(p, c + 10) <= values::count_most(k)
+    let receiver = p[c + 9];
+    p[c + 8] == 4
+        && values::receiver_length_good(k, receiver)
+        && c + 16 + receiver as usize <= p.len()
+        && field2_in(p, c + 10) <= values::count_most(k)
 }
 
 // N, number and a payload of n octets of the record at r.
@@ -59,15 +46,9 @@ fn content_fine(k: Kind, p: &[u8], r: usize, n: usize) -> bool
         × (not (eqb (fields.field4 p.now (r + 8)) definition.reserved_bits) ≡ true)
         × (definition.payload_good (definition.null_at p.now r) (fields.field4 p.now (r + 8)) n ≡ true) }
 {
-    let null = 128 <= octet_in(p, r + 6);
-    if !values::n_good(k, null) {
-        return false;
-    }
+    let null = 128 <= p[r + 6];
     let bits = field4_in(p, r + 8);
-    if bits == 2147483648 {
-        return false;
-    }
-    values::payload_good(null, bits, n)
+    values::n_good(k, null) && bits != 2147483648 && values::payload_good(null, bits, n)
 }
 
 // The record at r.
@@ -78,20 +59,12 @@ pub fn record_fine(k: Kind, p: &[u8], r: usize) -> bool
     if p.len() < r + 12 {
         return false;
     }
-    if field2_in(p, r) < 1 {
-        return false;
-    }
     let len = field2_in(p, r + 2) as usize;
-    if p.len() < r + len {
-        return false;
-    }
-    let key = octet_in(p, r + 4) as usize;
+    let key = p[r + 4] as usize;
     let size = 12 + key + 4;
-    if !values::key_length_good(k, key, size, len) {
-        return false;
-    }
-    if octet_in(p, r + 5) != 4 {
-        return false;
-    }
-    content_fine(k, p, r, len - size)
+    0 < field2_in(p, r)
+        && r + len <= p.len()
+        && values::key_length_good(k, key, size, len)
+        && p[r + 5] == 4
+        && content_fine(k, p, r, len - size)
 }

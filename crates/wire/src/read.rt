@@ -1,14 +1,14 @@
 // A packet read where it lies: the refusal that it gets, or what its head says.
-ghost use Rattle.std.specs.Prelude.{◌≡◌, ◌≤◌};
+ghost use Rattle.std.specs.Prelude.{◌≡◌, ◌≤◌, ◌&&◌, leb, if◌then◌else◌, IfOk};
 ghost use Rattle.protocol.specs.Sizes.{id_length};
-ghost use Rattle.protocol.specs.Fields.{field2, field4};
+ghost use Rattle.protocol.specs.Fields.{octet, field2, field4};
 ghost use Rattle.protocol.specs.Numbers as numbers;
 ghost use Rattle.protocol.specs.Answers as answers;
 ghost use Rattle.protocol.specs.Reading as definition;
-ghost use Rattle.wire.specs.Views.{message_of, Reads};
+ghost use Rattle.wire.specs.Views.{message_of, fixed_number, Reads};
 
 use crate::check;
-use protocol::{CaFlags, CaNumber, Checked, Kind};
+use protocol::{CaFlags, CaNumber, Kind};
 
 // The head of a packet: numbers by value, IDs and records by their places.
 #[derive(Clone, Copy)]
@@ -22,110 +22,86 @@ pub struct Head {
     pub records: crate::record::Cursor,
 }
 
-// Codes 5 to 9; code 10 with the position of the first field that breaks a rule; or the head of the message.
-#[derive(Clone, Copy)]
-pub enum Reading {
-    Refused(u8),
+// Why a packet is no message: codes 5 to 9 of the table, or code 10 with the position of the first field that breaks a rule.
+#[derive(Clone, Copy, PartialEq, Eq)]
+pub enum Refusal {
+    Length,
+    Version,
+    Type,
+    Checksum,
+    Extensions,
     Malformed(usize),
-    Packet(Head),
 }
 
 fn length_good(p: &[u8]) -> bool
     ensures { result ≡ answers.length_good id_length p.now }
 {
-    if p.len() < 8 {
-        return false;
-    }
-    if 284 < p.len() {
-        return false;
-    }
-    octets::field2(p, 2) as usize == p.len()
+    8 <= p.len() && p.len() <= 284 && octets::field2(p, 2) as usize == p.len()
 }
 
-fn type_good(p: &[u8]) -> bool
-    ensures { result ≡ answers.type_good p.now }
+// The kind of a type octet, if it is one.
+fn kind_of(t: u8) -> Option<Kind>
+    ensures { result ≡ (if leb 1 t && leb t 5 then Some (definition.kind_of t) else None) }
 {
-    let t = octets::octet(p, 1);
-    if t < 1 {
-        return false;
+    match t {
+        1 => Some(Kind::Ca),
+        2 => Some(Kind::CsuRequest),
+        3 => Some(Kind::CsuReply),
+        4 => Some(Kind::Csus),
+        5 => Some(Kind::Hello),
+        _ => None,
     }
-    t <= 5
 }
 
-// Codes 5 to 9 in the table's order, 0 for none.
-fn fixed_code(p: &[u8]) -> u8
-    ensures { result ≡ answers.fixed_code id_length p.now }
+// The kind of packet, or the first refusal of the fixed part in the table's order.
+#[tactic(auto, unfolding(protocol::specs::Answers::fixed_code))]
+fn fixed_check(p: &[u8]) -> Result<Kind, Refusal>
+    ensures code { fixed_number result ≡ answers.fixed_code id_length p.now }
+    ensures kind { IfOk result (λ k. k ≡ definition.kind_of (octet p.now 1)) }
 {
     if !length_good(p) {
-        return 5;
+        return Err(Refusal::Length);
     }
     if octets::octet(p, 0) != 1 {
-        return 6;
+        return Err(Refusal::Version);
     }
-    if !type_good(p) {
-        return 7;
-    }
+    let kind = kind_of(octets::octet(p, 1)).ok_or(Refusal::Type)?;
     if !numbers::sum::good_sum(p) {
-        return 8;
+        return Err(Refusal::Checksum);
     }
     if octets::field2(p, 6) != 0 {
-        return 9;
+        return Err(Refusal::Extensions);
     }
-    0
+    Ok(kind)
 }
 
-fn kind_of(t: u8) -> Kind
-    ensures { result ≡ definition.kind_of t }
-{
-    if t == 1 {
-        return Kind::Ca;
-    }
-    if t == 2 {
-        return Kind::CsuRequest;
-    }
-    if t == 3 {
-        return Kind::CsuReply;
-    }
-    if t == 4 {
-        return Kind::Csus;
-    }
-    Kind::Hello
-}
-
+#[tactic(auto, unfolding(protocol::specs::Reading::message_at))]
 fn head_of(k: Kind, p: &[u8]) -> Head
     ensures { (message_of p.now result ≡ definition.message_at id_length k p.now) × (result.records.at ≤ 287) }
 {
     let c = check::common_at(k);
-    let protocol = octets::field2(p, c);
-    let group = octets::field2(p, c + 2);
-    let receiver_len = octets::octet(p, c + 9) as usize;
-    let left = check::count_at(k, p) as usize;
-    let at = check::elements_at(k, p);
-    let records = crate::record::Cursor { at, left };
     Head {
         kind: k,
-        protocol,
-        group,
+        protocol: octets::field2(p, c),
+        group: octets::field2(p, c + 2),
         sender_at: c + 12,
         receiver_at: c + 16,
-        receiver_len,
-        records,
+        receiver_len: octets::octet(p, c + 9) as usize,
+        records: crate::record::Cursor {
+            at: check::elements_at(k, p),
+            left: check::count_at(k, p) as usize,
+        },
     }
 }
 
 // Any octets at all: which refusal they get, or which message they are.
-pub fn read(p: &[u8]) -> Reading
+#[tactic(auto, using(crate::proofs::Readings::refused), unfolding(protocol::specs::Reading::read_packet))]
+pub fn read(p: &[u8]) -> Result<Head, Refusal>
     ensures { Reads p.now result }
 {
-    let code = fixed_code(p);
-    if code != 0 {
-        return Reading::Refused(code);
-    }
-    let k = kind_of(octets::octet(p, 1));
-    match check::mandatory_check(k, p) {
-        Checked::Fine => Reading::Packet(head_of(k, p)),
-        Checked::Breaks(at) => Reading::Malformed(at),
-    }
+    let kind = fixed_check(p)?;
+    check::mandatory_check(kind, p).map_err(Refusal::Malformed)?;
+    Ok(head_of(kind, p))
 }
 
 pub fn sender(p: &[u8], h: Head) -> &[u8]
@@ -159,7 +135,7 @@ pub fn ca_flags(p: &[u8]) -> CaFlags
     }
 }
 
-// The HelloInterval of a Hello.
+// The HelloInterval of a Hello. A function for each field: its contract names the field's place in the paper.
 pub fn interval(p: &[u8]) -> u16
     ensures { result ≡ field2 p.now 8 }
 {

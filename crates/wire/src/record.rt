@@ -1,4 +1,6 @@
 // The records and receivers of a packet that was read, each by its position.
+#![tactic(auto, unfolding(protocol::specs::Reading::record_at))]
+
 ghost use Rattle.std.specs.Prelude.{◌≡◌, ◌++◌, ◌+◌, ◌≤◌};
 ghost use Rattle.laws.specs.Lists.{part};
 ghost use Rattle.protocol.specs.Reading as definition;
@@ -22,6 +24,7 @@ pub fn size(p: &[u8], r: usize) -> usize
     octets::field2(p, r + 2) as usize
 }
 
+// A function for each field of a record: its contract names that field.
 pub fn hops(p: &[u8], r: usize) -> u16
     requires { r ≤ 4294967296 }
     ensures { result ≡ (definition.record_at id_length p.now r).hops }

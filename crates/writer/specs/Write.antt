@@ -4,13 +4,16 @@ use Rattle.std.specs.Prelude.{ℕ, ◌+◌, ◌-◌, ◌≤◌, ◌≡◌, Bool,
 use Rattle.laws.specs.Choice.{pick}
 use Rattle.laws.specs.Puts.{written, Put}
 use Rattle.protocol.specs.declared.Kind.{Kind}
+use Rattle.protocol.specs.declared.Kind.TheVariants.{CsuRequest, CsuReply, Csus}
 use Rattle.protocol.specs.declared.CsaNumber.{CsaNumber}
 use Rattle.protocol.specs.Sizes.{id_length, fixed_size}
 use Rattle.protocol.specs.Fields.{put2, put4}
 use Rattle.protocol.specs.Checksum.{checksum_of, with_field}
-use Rattle.protocol.specs.Messages.{CsaRecord, Body, hello, Message}
+use Rattle.protocol.specs.Messages.{CsaRecord, Body, csu_request, csu_reply, csus, hello, Message}
 use Rattle.protocol.specs.Layouts.{fixed_part, records_octets, packet_of}
 use Rattle.writer.specs.declared.write.Common.{Common}
+use Rattle.writer.specs.declared.write.Csu.{Csu}
+use Rattle.writer.specs.declared.write.Csu.TheVariants.{Request, Reply, Solicit}
 
 -- ---- messages
 -- a record whose name is key and originator, one behind the other
@@ -30,6 +33,17 @@ message_from c receiver b = record { protocol = c.protocol; group = c.group; sen
 -- our Hello names its receiver or nobody
 abbrev pub hello_message : Common → ℕ → ℕ → Bool → Message
 hello_message c interval factor named = message_from c (pick named c.receiver []) (hello interval factor [])
+
+-- what a packet of each type carries, and its kind
+abbrev pub csu_body : Csu → List CsaRecord → Body
+csu_body Request rs = csu_request rs
+csu_body Reply rs = csu_reply rs
+csu_body Solicit rs = csus rs
+
+abbrev pub csu_kind : Csu → Kind
+csu_kind Request = CsuRequest
+csu_kind Reply = CsuReply
+csu_kind Solicit = Csus
 
 -- ---- contracts
 -- p is at the start of a lent slice, and n is its length
@@ -74,7 +88,3 @@ sealed k b = fixed_part k (fixed_size + length b) (checksum_of (fixed_part k (fi
 -- b that was put from `at` up to n is a packet, with o between its fixed part and b
 abbrev pub Behind : Kind → List ℕ → ℕ → ℕ → List ℕ → List ℕ → Type 0
 Behind k o at n before after = (b out : List ℕ) → n ≤ length out → Put b at out before n → Wrote (sealed k (o ++ b)) out after n
-
--- the head h was put, a fixed part and some o
-abbrev pub Heads : List ℕ → ℕ → List ℕ → List ℕ → Type 0
-Heads h n before after = (k : Kind) (o : List ℕ) → h ≡ fixed_part k n 0 ++ o → Behind k o (length h) n before after

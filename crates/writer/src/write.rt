@@ -1,16 +1,14 @@
 // The five types of packet, each written into a lent slice: the records where they shall stand, then the head before them.
 ghost use Rattle.std.specs.Prelude.{◌≡◌, [], ◌++◌, ◌+◌, ◌≤◌, ◌<◌, length};
 ghost use Rattle.laws.specs.Puts.{Put};
-ghost use Rattle.protocol.specs.declared.Kind.TheVariants.{Ca, CsuRequest, CsuReply, Csus};
+ghost use Rattle.protocol.specs.declared.Kind.TheVariants.{Ca};
 ghost use Rattle.protocol.specs.Sizes.{id_length};
 ghost use Rattle.protocol.specs.Fields.{put4};
-ghost use Rattle.protocol.specs.Messages.{ca, csu_request, csu_reply, csus};
+ghost use Rattle.protocol.specs.Messages.{ca};
 ghost use Rattle.protocol.specs.Layouts.{flags_field, record_octets, packet_of};
-ghost use Rattle.writer.specs.Write.{named_record, hello_message, receiver_length, common_part, Wrote, Behind, FinishesWith};
+ghost use Rattle.writer.specs.Write.{named_record, hello_message, csu_body, csu_kind, receiver_length, common_part, Wrote, Behind, FinishesWith};
 
-use crate::put::{
-    bit, ca_start, common_part, fixed_part, flags_of, hello_start, put_head, record_head,
-};
+use crate::put::{common_part, flags_of, hello_fields, put_head, record_head};
 use numbers::bits_of;
 use octets::{first, put};
 use protocol::{CaFlags, CaNumber, CsaNumber, Kind};
@@ -42,50 +40,45 @@ pub fn put_record(
         hops,
         (name.len() - 4) as u8,
         payload.len() as u8,
-        bit(null) * 32768,
+        null,
         bits_of(number),
     );
     let a = put(out, at, &h);
     let b = put(out, a, name);
+    // A summary has no payload, and the copy of none is a call all the same.
     if payload.len() == 0 {
         return b;
     }
     put(out, b, payload)
 }
 
-// The head of a packet whose records stand in `out` from octet 28 up to n, and its checksum.
-fn finish_csu(out: &mut [u8], k: Kind, c: Common, count: u16, n: usize)
-    requires { (28 ≤ n) × ((n < 65536) × (n ≤ length out.old)) }
-    ensures { Behind k (common_part c 0 id_length count) 28 n out.old out.new }
-{
-    let start = fixed_part(k, n as u16);
-    let common = common_part(c, 0, 4, count);
-    put_head(out, &start, &common, n);
+// The types of packet of CSA records with no CA sequence number.
+#[derive(Clone, Copy, PartialEq, Eq)]
+pub enum Csu {
+    Request,
+    Reply,
+    Solicit,
 }
 
-// Records that were put there are a whole packet then; whatever else stands there is left, with the same head before it.
-pub fn finish_request(out: &mut [u8], c: Common, count: u16, n: usize)
-    requires { (28 ≤ n) × ((n < 65536) × (n ≤ length out.old)) }
-    ensures finishes_with { FinishesWith csu_request c 28 count n out.old out.new }
-    ensures octets { Behind CsuRequest (common_part c 0 id_length count) 28 n out.old out.new }
+// A match: the cases of `Csu` are three of those of `Kind`.
+fn kind_of(t: Csu) -> Kind
+    ensures { result ≡ csu_kind t }
 {
-    finish_csu(out, Kind::CsuRequest, c, count, n);
+    match t {
+        Csu::Request => Kind::CsuRequest,
+        Csu::Reply => Kind::CsuReply,
+        Csu::Solicit => Kind::Csus,
+    }
 }
 
-pub fn finish_reply(out: &mut [u8], c: Common, count: u16, n: usize)
+// The head of a packet whose records stand in `out` from octet 28 up to n, and its checksum. Records that were put there are a whole packet
+// then; whatever else stands there is left, with the same head before it.
+pub fn finish_csu(out: &mut [u8], t: Csu, c: Common, count: u16, n: usize)
     requires { (28 ≤ n) × ((n < 65536) × (n ≤ length out.old)) }
-    ensures finishes_with { FinishesWith csu_reply c 28 count n out.old out.new }
-    ensures octets { Behind CsuReply (common_part c 0 id_length count) 28 n out.old out.new }
+    ensures finishes_with { FinishesWith (csu_body t) c 28 count n out.old out.new }
+    ensures octets { Behind (csu_kind t) (common_part c 0 id_length count) 28 n out.old out.new }
 {
-    finish_csu(out, Kind::CsuReply, c, count, n);
-}
-
-pub fn finish_csus(out: &mut [u8], c: Common, count: u16, n: usize)
-    requires { (28 ≤ n) × ((n < 65536) × (n ≤ length out.old)) }
-    ensures finishes_with { FinishesWith csus c 28 count n out.old out.new }
-    ensures octets { Behind Csus (common_part c 0 id_length count) 28 n out.old out.new }
-{
-    finish_csu(out, Kind::Csus, c, count, n);
+    put_head(out, kind_of(t), &[], &common_part(c, 0, 4, count), n);
 }
 
 // The records of a CA start at octet 32.
@@ -95,18 +88,14 @@ pub fn finish_ca(out: &mut [u8], c: Common, number: CaNumber, flags: CaFlags, co
     ensures octets { Behind Ca (put4 number.0 [] ++ common_part c (flags_field flags) id_length count) 32 n out.old
         out.new }
 {
-    let start = ca_start(n as u16, number);
     let common = common_part(c, flags_of(flags), 4, count);
-    put_head(out, &start, &common, n);
+    put_head(out, Kind::Ca, &number.0.to_be_bytes(), &common, n);
 }
 
 fn receiver_len(named: bool) -> u8
     ensures { (result ≡ receiver_length named) × (result ≤ 4) }
 {
-    if named {
-        return 4;
-    }
-    0
+    if named { 4 } else { 0 }
 }
 
 // A Hello that names the receiver, or nobody: how many octets it has. Below the events: asks for the room.
@@ -115,9 +104,14 @@ pub fn write_hello(out: &mut [u8], c: Common, interval: u16, factor: u16, named:
     ensures { Wrote (packet_of (hello_message c interval factor named)) out.old out.new result }
 {
     let len = receiver_len(named);
-    let n = 32 + len as usize;
-    let start = hello_start(n as u16, interval, factor);
+    let n = 32 + usize::from(len);
     let common = common_part(c, 0, len, 0);
-    put_head(out, &start, first(&common, n - 16), n);
+    put_head(
+        out,
+        Kind::Hello,
+        &hello_fields(interval, factor),
+        first(&common, n - 16),
+        n,
+    );
     n
 }

@@ -1,9 +1,6 @@
--- Two digits an octet; the loop keeps the room for what is left.
-use Rattle.std.proofs.Common.{◌≡◌, length, ◌+◌, ◌*◌, ◌-◌, ◌≤◌}
+-- Two digits an octet.
+use Rattle.std.proofs.Common.{◌≡◌, length, ◌+◌, ◌*◌}
 use Rattle.trace.proofs.put_octets.Given as goal
 
-abbrev pub invariant-loop-i : goal.invariant-loop-i
-invariant-loop-i l = ((length l.text ≡ length l.initial.text) × (l.i ≤ length l.p)) × (l.at ≡ l.from + l.i * 2)
-
-abbrev pub decreases-loop-i : goal.decreases-loop-i
-decreases-loop-i l = length l.p - l.i
+abbrev pub invariant-loop-x : goal.invariant-loop-x
+invariant-loop-x l = (length l.text ≡ length l.initial.text) × (l.at ≡ l.from + l.x-index * 2)

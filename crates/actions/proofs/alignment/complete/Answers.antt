@@ -3,4 +3,4 @@ use Rattle.actions.proofs.alignment.complete.Goals as goal
 
 pub returns : goal.returns
 returns c =
-    completes c.args.memory.now c.args.k c.count.result c.args.x c.completed.result c.requires.1 c.count.ensures.0 c.completed.ensures
+    completes c.args.memory.now c.args.k.at c.count.result c.args.x c.completed.result c.args.k.below c.count.ensures.0 c.completed.ensures

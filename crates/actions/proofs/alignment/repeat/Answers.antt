@@ -5,4 +5,4 @@ use Rattle.actions.proofs.alignment.repeat.Goals as goal
 pub returns : goal.returns
 returns c =
     let m = memory_of c.args.memory.now in
-    (c.ca_sent-slot.ensures (requests_of m c.args.k) (kept_of m c.args.k), kept_wrote c.copy_kept-n.ensures)
+    (c.ca_sent.ensures (requests_of m c.args.k.at) (kept_of m c.args.k.at), kept_wrote c.copy_kept-written.ensures)

@@ -4,8 +4,8 @@ use Rattle.actions.proofs.alignment.send_answer.Goals as goal
 
 pub returns : goal.returns
 returns c =
-    let sent = c.send_ca-n in
-    answer_sent c.args.k c.args.time c.args.s c.args.x c.args.picks c.args.memory.now sent.new.memory c.args.out.now sent.new.out
-    c.common.result c.flags_of.result c.with_listed.result c.ca_sent-y.result
-    (record { slot = c.complete-slot.result; written = sent.result }) c.requires.0.1.0 c.common.ensures c.flags_of.ensures
-    sent.ensures c.with_listed.ensures c.ca_sent-y.ensures c.complete-slot.ensures
+    let sent = c.send_ca-written in
+    answer_sent c.args.k.at c.args.time c.args.s c.args.x c.args.picks c.args.memory.now sent.new.memory c.args.out.now sent.new.out
+    c.common-c.result c.flags_of.result c.with_listed.result c.ca_sent-y.result
+    (record { slot = c.complete.result; written = sent.result }) c.args.k.below c.common-c.ensures c.flags_of.ensures
+    sent.ensures c.with_listed.ensures c.ca_sent-y.ensures c.complete.ensures

@@ -9,5 +9,5 @@ use Rattle.actions.proofs.moves.hear.Goals as goal
 pub returns-then-stays : goal.returns-then-stays
 returns-then-stays c =
     let a = c.args in
-    let stays = ap (λ (z : HelloState). is_bidirectional z && a.named) (sym c.hello_at-h.ensures) ∙ sym c.stays.ensures ∙ c.if-stays.true in
-    heard_put a.k a.slots.now c.put_heard.new.t a.memory.now a.time a.interval a.factor a.named stays c.put_heard.ensures
+    let stays = ap (λ (z : HelloState). is_bidirectional z && a.named) (sym c.hello_at.ensures) ∙ sym c.stays.ensures ∙ c.if-stays.true in
+    heard_put a.k.at a.slots.now c.put_heard.new.t a.memory.now a.time a.interval a.factor a.named stays c.put_heard.ensures

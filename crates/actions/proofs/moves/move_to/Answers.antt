@@ -9,5 +9,5 @@ use Rattle.actions.proofs.moves.move_to.Goals as goal
 pub returns : goal.returns
 returns c =
     let a = c.args in
-    let not = ap (λ (z : Alignment). enters z Down) (sym c.alignment_at-a.ensures) ∙ sym c.enters.ensures ∙ c.if-enters.false in
-    state_put a.k a.slots.now c.put_hello.new.t a.memory.now a.h not c.put_hello.ensures
+    let not = ap (λ (z : Alignment). enters z Down) (sym c.alignment_at.ensures) ∙ sym c.enters.ensures ∙ c.if-enters.false in
+    state_put a.k.at a.slots.now c.put_hello.new.t a.memory.now a.h not c.put_hello.ensures

@@ -1,8 +1,17 @@
-use Rattle.actions.proofs.MoveLaws.{moves}
+use Rattle.std.proofs.Common.{List, ℕ}
+use mathlib.Core.Path.{sym, subst, ◌∙◌}
+use Rattle.actions.specs.Parts.{Moves}
+use Rattle.actions.proofs.MoveLaws.{moves_entered, moves_still}
+use Rattle.actions.proofs.parts.move_link.Goals.{then-enters, else-enters}
 use Rattle.actions.proofs.parts.move_link.Goals as goal
 
 pub returns : goal.returns
 returns c =
     let a = c.args in
-    moves a.k a.l a.x a.memory.now c.clear_if.new.memory c.moved.result c.empty_if.new.memory c.enters-entered.result
-    c.enters-entered.ensures c.empty_if.ensures c.clear_if.ensures c.moved.ensures
+    elim c.if-enters.branch [
+      | then-enters w ↦ subst (λ (m : List ℕ). Moves a.k.at a.l a.x a.memory.now m c.moved.result) (sym w.memory-is)
+          (moves_entered a.k.at a.l a.x a.memory.now w.clear_slot.new.memory c.moved.result w.empty_lists.new.memory
+          (sym c.enters.ensures ∙ w.if-enters.true) w.empty_lists.ensures w.clear_slot.ensures c.moved.ensures)
+      | else-enters w ↦ subst (λ (m : List ℕ). Moves a.k.at a.l a.x a.memory.now m c.moved.result) (sym w.memory-is)
+          (moves_still a.k.at a.l a.x a.memory.now c.moved.result (sym c.enters.ensures ∙ w.if-enters.false) c.moved.ensures)
+    ]

@@ -6,5 +6,5 @@ pub returns : goal.returns
 returns c =
     let a = c.args in
     let w = c.write_due-n in
-    sends a.d.due a.k a.time (settings_of a.s) a.d.picks a.slots.now c.put_due.new.slots a.memory.now w.new.memory a.out.now
+    sends a.d a.k.at a.time (settings_of a.s) a.slots.now c.put_due.new.slots a.memory.now w.new.memory a.out.now
     w.new.out w.result c.requires.1 w.ensures c.put_due.ensures

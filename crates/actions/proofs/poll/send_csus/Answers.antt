@@ -3,7 +3,7 @@ use Rattle.std.proofs.Common.{map, take, ap, ◌∙◌}
 use Rattle.actions.proofs.SendLaws.{packet_as, csus_is}
 use Rattle.actions.specs.Steps.{common_of, our_message}
 use Rattle.actions.specs.Parts.{slot_now}
-use Rattle.table.specs.Words.{slot_in}
+use Rattle.table.specs.Slots.{slot_in}
 use Rattle.slots.specs.State.{settings_of}
 use Rattle.memory.specs.Memory.{requests_in}
 use Rattle.rules.specs.Poll.{request_record, csus_of}
@@ -19,8 +19,8 @@ returns c =
     record {
       memory = c.rotate.ensures;
       wrote = packet_as (packet_of
-          (our_message m.result (csus (map request_record (take 4 (requests_in a.memory.now a.k))))))
-          (packet_of (csus_of (settings_of a.s) (slot_now a.slots.now a.k a.memory.now))) a.out.now w.new.out w.result
-          w.ensures (csus_is a.s (slot_in a.slots.now a.k) a.k a.memory.now m.result
-          (m.ensures ∙ ap (common_of a.s) c.peer_at-peer.ensures) c.requires.1.1.0);
+          (our_message m.result (csus (map request_record (take 4 (requests_in a.memory.now a.k.at))))))
+          (packet_of (csus_of (settings_of a.s) (slot_now a.slots.now a.k.at a.memory.now))) a.out.now w.new.out w.result
+          w.ensures (csus_is a.s (slot_in a.slots.now a.k.at) a.k.at a.memory.now m.result
+          (m.ensures ∙ ap (common_of a.s) c.peer_at.ensures) c.args.k.below);
     }

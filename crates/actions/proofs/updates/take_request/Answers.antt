@@ -3,17 +3,16 @@ use Rattle.std.proofs.Common.{ap, ◌∙◌}
 use Rattle.actions.proofs.UpdateLaws.{request_taken}
 use Rattle.actions.specs.Steps.{common_of}
 use Rattle.memory.specs.Memory.{is_marked}
-use Rattle.wire.specs.Views.{records_of}
+use Rattle.records.specs.Views.{records_in}
 use Rattle.actions.proofs.updates.take_request.Goals as goal
 
 pub returns : goal.returns
 returns c =
     let a = c.args in
-    let q = c.requires in
     let u = c.update_all-to in
-    let w = c.write_reply-n in
+    let w = c.write_csu-n in
     let m = c.common in
     let d = c.put_completed in
-    request_taken (is_marked a.live) a.k (records_of a.p.now a.h.records) a.memory.now u.new.memory u.ensures.updates_all a.s a.slots.now
-    d.new.slots m.result u.result a.out.now u.new.out w.new.out w.result q.0.1.0 q.0.1.1
+    request_taken (is_marked a.live) a.k.at (records_in a.records) a.memory.now u.new.memory u.ensures.updates_all a.s a.slots.now
+    d.new.slots m.result u.result a.out.now u.new.out w.new.out w.result c.args.k.below c.requires
     (m.ensures ∙ ap (common_of a.s) c.peer_at-peer.ensures) u.ensures.replies w.ensures d.ensures

@@ -1,10 +1,10 @@
 -- Settings that are taken give the line of record 0; any others the last line, `cut`.
-use Rattle.std.proofs.Common.{sym, ◌∙◌}
-use Rattle.lines.proofs.RunLaws.{bad}
+use Rattle.std.proofs.Common.{is_ok, sym, ap, ◌∙◌}
+use Rattle.lines.proofs.RunLaws.{good}
 use Rattle.lines.proofs.ChunkLaws.{opens_cut}
 use Rattle.lines.proofs.chunk.open_in.Goals as goal
 
-pub returns : goal.returns
-returns c =
+pub returns-in-Err : goal.returns-in-Err
+returns-in-Err c =
     let began = c.begin-answer.ensures in
-    opens_cut began (bad began (sym c.is_taken.ensures ∙ c.if-is_taken.false)) c.put_cut-n.ensures
+    opens_cut began (sym (good began) ∙ ap is_ok c.in-Err.is) c.put_cut-end.ensures

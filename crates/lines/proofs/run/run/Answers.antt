@@ -1,7 +1,8 @@
-use Rattle.std.proofs.Common.{sym, ◌∙◌}
-use Rattle.lines.proofs.RunLaws.{runs}
+use Rattle.std.proofs.Common.{sym, ap, ◌∙◌, not}
+use Rattle.lines.proofs.RunLaws.{good, runs}
 use Rattle.lines.proofs.run.run.Goals as goal
 
 pub returns : goal.returns
 returns c =
-    runs c.begin-first.ensures (sym c.is_taken.ensures ∙ c.if-not-is_taken.false) c.run_from.ensures c.take.ensures
+    let began = c.begin-first.ensures in
+    runs began (sym (good began) ∙ c.is_err.ensures.negation ∙ ap not c.if-is_err.false) c.run_from.ensures c.take.ensures

@@ -11,6 +11,6 @@ use Rattle.memory.proofs.entries.change_row.Goals as goal
 pub returns : goal.returns
 returns c =
     let a = c.args in
-    c.put_value.ensures.memory_after ∙ ap (λ (r : Row). with_row a.memory.now a.i r)
-    (changed_row_lem a.memory.now a.i (is_marked a.live) a.payload.now c.step_of-number.result
+    c.put_value.ensures.memory_after ∙ ap (λ (r : Row). with_row a.memory.now a.i.at r)
+    (changed_row_lem a.memory.now a.i.at (is_marked a.live) a.payload.octets.now c.step_of-number.result
     (c.step_of-number.ensures ∙ ap (λ (n : CsaNumber). stepped n (next_csa n)) c.number_of-held.ensures))

@@ -5,4 +5,4 @@ pub returns : goal.returns
 returns c =
     let a = c.args in
     let at = c.place in
-    kept_none a.memory.now a.k at.result at.ensures.0 c.requires.0 c.requires.1 c.put_size.new.memory c.put_size.ensures
+    kept_none a.memory.now a.k.at at.result at.ensures.0 c.args.k.below (search) c.put_size.new.memory c.put_size.ensures

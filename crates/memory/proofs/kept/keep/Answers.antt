@@ -5,5 +5,5 @@ pub returns : goal.returns
 returns c =
     let a = c.args in
     let at = c.place-at in
-    kept_put_lem a.memory.now a.k at.result at.ensures.0 c.requires.0 c.requires.1.1 a.src.now c.put_size.new.memory c.put.new.out
-    c.requires.1.0 c.put_size.ensures c.put.ensures.octets
+    kept_put_lem a.memory.now a.k.at at.result at.ensures.0 c.args.k.below (search) a.src.now c.put_size.new.memory c.put.new.out
+    c.requires c.put_size.ensures c.put.ensures.octets

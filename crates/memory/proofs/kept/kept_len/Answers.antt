@@ -6,4 +6,4 @@ pub returns : goal.returns
 returns c =
     let a = c.args in
     let at = c.place in
-    kept_length a.memory.now a.k at.result at.ensures.0 c.size_at.result (omega arith) c.size_at.ensures
+    kept_length a.memory.now a.k.at at.result at.ensures.0 c.size_at.result (omega arith) c.size_at.ensures

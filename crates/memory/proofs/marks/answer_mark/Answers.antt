@@ -8,12 +8,12 @@ pub returns-then-newer-clause-memory_after : goal.returns-then-newer-clause-memo
 returns-then-newer-clause-memory_after c =
     let a = c.args in
     let s = a.memory.now in
-    changed_not (answer_waits a.k a.number) s a.i
-    (answer_newer s a.i c.requires.1.0 a.k a.number c.number_of.result c.number_of.ensures (sym c.newer.ensures ∙ c.if-newer.true))
+    changed_not (answer_waits a.k.at a.number) s a.i.at
+    (answer_newer s a.i.at c.args.i.below a.k.at a.number c.number_of.result c.number_of.ensures (sym c.newer.ensures ∙ c.if-newer.true))
 
 pub returns-clause-memory_after : goal.returns-clause-memory_after
 returns-clause-memory_after c =
     let a = c.args in
     let s = a.memory.now in
-    c.mark_again.ensures.memory_after ∙ changed_as (waits_again a.k) (answer_waits a.k a.number) s a.i
-    (answer_held s a.i c.requires.1.0 a.k a.number c.number_of.result c.number_of.ensures (sym c.newer.ensures ∙ c.if-newer.false))
+    c.mark_again.ensures.memory_after ∙ changed_as (waits_again a.k.at) (answer_waits a.k.at a.number) s a.i.at
+    (answer_held s a.i.at c.args.i.below a.k.at a.number c.number_of.result c.number_of.ensures (sym c.newer.ensures ∙ c.if-newer.false))

@@ -1,10 +1,7 @@
 use lib.Bits.{bit_or}
 use Rattle.std.proofs.Common.{refl}
-use Rattle.memory.proofs.MarkLaws.{marks_none, marks_more, marks_all}
+use Rattle.memory.proofs.MarkLaws.{marks_more, marks_all}
 use Rattle.memory.proofs.marks.any_marks.Goals as goal
-
-pub loop-i-init : goal.loop-i-init
-loop-i-init c = marks_none c.args.memory.now
 
 pub loop-i-preserved : goal.loop-i-preserved
 loop-i-preserved c =

@@ -12,7 +12,7 @@ pub returns : goal.returns
 returns c =
     let a = c.args in
     let s = a.memory.now in
-    let h = c.requires.1.0 in
+    let h = c.args.i.below in
     let r = c.without_mark-b.result in
-    c.put_marks.ensures ∙ changed_as (with_marks (is_marked r)) (unmarked a.k) s a.i
-    (marks_on s a.i h a.k (octet s (mark_place a.i)) r false refl c.without_mark-b.ensures ∙ row_unmarked s a.i h a.k)
+    c.put_marks.ensures ∙ changed_as (with_marks (is_marked r)) (unmarked a.k.at) s a.i.at
+    (marks_on s a.i.at h a.k.at (octet s (mark_place a.i.at)) r false refl c.without_mark-b.ensures ∙ row_unmarked s a.i.at h a.k.at)

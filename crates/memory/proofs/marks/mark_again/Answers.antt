@@ -10,11 +10,11 @@ pub returns-then-remaining_of-eq0-clause-memory_after : goal.returns-then-remain
 returns-then-remaining_of-eq0-clause-memory_after c =
     let a = c.args in
     let s = a.memory.now in
-    changed_not (waits_again a.k) s a.i (again_not s a.i c.requires.1.0 a.k (sym c.remaining_of.ensures ∙ c.if-remaining_of-eq0.true))
+    changed_not (waits_again a.k.at) s a.i.at (again_not s a.i.at c.args.i.below a.k.at (sym c.remaining_of.ensures ∙ c.if-remaining_of-eq0.true))
 
 pub returns-clause-memory_after : goal.returns-clause-memory_after
 returns-clause-memory_after c =
     let a = c.args in
     let s = a.memory.now in
-    let some : (value_at s a.i).remaining ≡ 0 → ⊥ = λ z. c.if-remaining_of-eq0.false (c.remaining_of.ensures ∙ z) in
-    c.set_mark.ensures ∙ changed_as (marked a.k) (waits_again a.k) s a.i (again_so s a.i c.requires.1.0 a.k some)
+    let some : (value_at s a.i.at).remaining ≡ 0 → ⊥ = λ z. c.if-remaining_of-eq0.false (c.remaining_of.ensures ∙ z) in
+    c.set_mark.ensures ∙ changed_as (marked a.k.at) (waits_again a.k.at) s a.i.at (again_so s a.i.at c.args.i.below a.k.at some)

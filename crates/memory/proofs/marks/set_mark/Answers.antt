@@ -11,7 +11,7 @@ pub returns : goal.returns
 returns c =
     let a = c.args in
     let s = a.memory.now in
-    let h = c.requires.1.0 in
+    let h = c.args.i.below in
     let r = c.with_mark-b.result in
-    c.put_marks.ensures ∙ changed_as (with_marks (is_marked r)) (marked a.k) s a.i
-    (marks_on s a.i h a.k (octet s (mark_place a.i)) r true refl c.with_mark-b.ensures ∙ row_marked s a.i h a.k)
+    c.put_marks.ensures ∙ changed_as (with_marks (is_marked r)) (marked a.k.at) s a.i.at
+    (marks_on s a.i.at h a.k.at (octet s (mark_place a.i.at)) r true refl c.with_mark-b.ensures ∙ row_marked s a.i.at h a.k.at)

@@ -4,4 +4,4 @@ use Rattle.memory.specs.Memory.{is_marked}
 use Rattle.memory.proofs.marks.spread_of.Goals as goal
 
 pub returns : goal.returns
-returns c = c.without_mark.ensures ∙ spread_some (is_marked c.args.live) c.args.k c.args.remaining (omega arith)
+returns c = c.without_mark.ensures ∙ spread_some (is_marked c.args.live) c.args.k.at c.args.remaining (omega arith)

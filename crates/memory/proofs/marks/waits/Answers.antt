@@ -1,9 +1,11 @@
-use Rattle.std.proofs.Common.{◌∙◌}
+use Rattle.std.proofs.Common.{eq-eqb, ap, ◌∙◌, not}
 use Rattle.memory.proofs.MarkLaws.{waits_none, waits_marked}
 use Rattle.memory.proofs.marks.waits.Goals as goal
 
-pub returns-then-memory-i-eq0 : goal.returns-then-memory-i-eq0
-returns-then-memory-i-eq0 c = waits_none c.args.memory.now c.args.i c.requires.1.0 c.args.k c.if-memory-i-eq0.true
+pub returns-then-memory-i-ne0 : goal.returns-then-memory-i-ne0
+returns-then-memory-i-ne0 c = c.is_marked.ensures ∙ waits_marked c.args.memory.now c.args.i.at c.args.i.below c.args.k.at c.if-memory-i-ne0.true
 
-pub returns : goal.returns
-returns c = c.is_marked.ensures ∙ waits_marked c.args.memory.now c.args.i c.requires.1.0 c.args.k c.if-memory-i-eq0.false
+pub returns-else-memory-i-ne0 : goal.returns-else-memory-i-ne0
+returns-else-memory-i-ne0 c =
+    let a = c.args in
+    ap not (eq-eqb _ 0 c.if-memory-i-ne0.false) ∙ waits_none a.memory.now a.i.at a.i.below a.k.at c.if-memory-i-ne0.false

@@ -5,4 +5,4 @@ pub returns : goal.returns
 returns c =
     let a = c.args in
     let at = c.list_place in
-    sized a.memory.now c.put_size.new.memory a.k at.result a.n at.ensures.0 c.requires.0 c.requires.1.1 c.put_size.ensures
+    sized a.memory.now c.put_size.new.memory a.k.at at.result a.n at.ensures.0 c.args.k.below (search) c.put_size.ensures

@@ -6,8 +6,7 @@ use Rattle.memory.proofs.room.put_room.Goals as goal
 pub returns : goal.returns
 returns c =
     let a = c.args in
-    let p = c.requires in
     let at = c.place in
     let to = c.tag_place in
-    room_put a.memory.now a.k a.i at.result at.ensures.0 _ a.q.now a.tag to.result p.0 p.1.0 p.1.1.1 p.1.1.0
+    room_put a.memory.now a.k.at a.i.at at.result at.ensures.0 _ a.q.now a.tag to.result a.k.below a.i.below (search) c.requires
     to.ensures.0 (ap (λ (l : List ℕ). set l to.result a.tag) c.put.ensures.octets)

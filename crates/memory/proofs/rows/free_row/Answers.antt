@@ -1,8 +1,5 @@
-use Rattle.memory.proofs.RowReads.{free_hit, free_miss}
+use Rattle.memory.proofs.RowReads.{free_place}
 use Rattle.memory.proofs.rows.free_row.Goals as goal
 
-pub returns-then-i-lt-ROWS : goal.returns-then-i-lt-ROWS
-returns-then-i-lt-ROWS c = free_hit c.args.memory.now c.first_octet-i.result c.first_octet-i.ensures c.if-i-lt-ROWS.true
-
 pub returns : goal.returns
-returns c = free_miss c.args.memory.now c.first_octet-i.result c.first_octet-i.ensures c.if-i-lt-ROWS.false
+returns c = free_place c.args.memory.now c.first_index.result c.first_index.ensures

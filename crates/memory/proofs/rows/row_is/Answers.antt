@@ -1,19 +1,25 @@
 -- Another tag, a free row and another name each mean that the row does not hold the entry; else it does.
-use Rattle.std.proofs.Common.{sym, ap, ◌∙◌}
+use Rattle.std.proofs.Common.{sym, ap, ◌∙◌, eqb-true}
 use Rattle.laws.specs.Tables.{same}
-use Rattle.memory.proofs.RowPlaces.{held_by_name, other_tag}
+use Rattle.memory.proofs.RowPlaces.{held_by_name, other_tag, not_held}
 use Rattle.memory.proofs.rows.row_is.Goals as goal
-
-pub returns-then-memory-i : goal.returns-then-memory-i
-returns-then-memory-i c =
-    let a = c.args in
-    let p = c.requires in
-    sym (other_tag a.memory.now a.i p.0.0 p.0.1 a.name.now p.1.0 (λ e. c.if-memory-i.true (e ∙ sym p.1.1)))
+use Rattle.memory.proofs.rows.row_is.Goals.{then-memory-i, else-memory-i}
 
 pub returns-then-is_used : goal.returns-then-is_used
 returns-then-is_used c =
     let a = c.args in
-    let p = c.requires in
-    c.same.ensures ∙ ap (λ n. same n a.name.now) c.name_of-held.ensures
-    ∙ held_by_name a.memory.now a.i p.0.0 p.0.1 a.name.now p.1.0 (c.if-memory-i.false ∙ p.1.1)
-    (sym c.is_used.ensures ∙ c.if-is_used.true)
+    c.same.ensures ∙ ap (λ n. same n a.name.now) c.name_of.ensures ∙
+    (elim c.if-memory-i.branch [
+      | then-memory-i w ↦ held_by_name a.memory.now a.i.at c.told-memory a.i.below a.name.now c.requires.0 (w.if-memory-i.true ∙ c.requires.1)
+          (sym w.is_used.ensures ∙ sym w.value-is ∙ c.if-is_used.true)
+      | else-memory-i w ↦ absurd (w.if-memory-i.false (eqb-true _ a.t (sym w.value-is ∙ c.if-is_used.true)))
+    ])
+
+pub returns-else-is_used : goal.returns-else-is_used
+returns-else-is_used c =
+    let a = c.args in
+    c.if-is_used.false ∙ sym
+    (elim c.if-memory-i.branch [
+      | then-memory-i w ↦ not_held a.memory.now a.i.at a.name.now (sym w.is_used.ensures ∙ sym w.value-is ∙ c.if-is_used.false)
+      | else-memory-i w ↦ other_tag a.memory.now a.i.at c.told-memory a.i.below a.name.now c.requires.0 (λ e. w.if-memory-i.false (e ∙ sym c.requires.1))
+    ])

@@ -1,10 +1,6 @@
 -- So far no row before both best and i is to be freed.
-use Rattle.std.proofs.Common.{◌-◌}
 use Rattle.memory.proofs.RowSweep.{LastTo}
 use Rattle.memory.proofs.store.first_last.Given as goal
 
 abbrev pub invariant-loop-i : goal.invariant-loop-i
 invariant-loop-i l = LastTo l.memory l.i l.best
-
-abbrev pub decreases-loop-i : goal.decreases-loop-i
-decreases-loop-i l = 64 - l.i

@@ -4,4 +4,4 @@ use Rattle.memory.proofs.RowWhole.{row_freed}
 use Rattle.memory.proofs.store.free_at.Goals as goal
 
 pub returns : goal.returns
-returns c = ap memory_of c.put_sections.ensures ∙ row_freed c.args.memory.now c.args.i 255 c.requires.1 c.requires.0
+returns c = ap memory_of c.put_sections.ensures ∙ row_freed c.args.memory.now c.args.i.at 255 c.args.i.below (search)

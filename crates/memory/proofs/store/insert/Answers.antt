@@ -1,25 +1,23 @@
 -- The row found is the lowest free one, and is put; without one nothing changes.
-use Rattle.std.proofs.Common.{sym, ◌∙◌}
-use Rattle.rules.specs.Server.{is_free, used}
+use Rattle.std.proofs.Common.{sym, ap, ◌∙◌, subst, Some}
+use Rattle.rules.specs.Server.{used}
 use Rattle.rules.specs.Updates.{value}
 use Rattle.memory.specs.Memory.{entry_named, is_marked}
-use Rattle.memory.proofs.RowInsert.{found_below, insert_stored, insert_full}
+use Rattle.memory.specs.Search.{place_of, Inserts}
+use Rattle.memory.proofs.RowInsert.{insert_stored, insert_full}
 use Rattle.memory.proofs.store.insert.Goals as goal
 
-pub put_row-requires : goal.put_row-requires
-put_row-requires c =
+pub returns-in_err-i : goal.returns-in_err-i
+returns-in_err-i c =
     let a = c.args in
-    let p = c.requires in
-    ((p.0, found_below is_free a.memory.now c.in-At.i (sym c.free_row.ensures ∙ c.in-At.is)), p.1)
+    let s = a.memory.now in
+    let r = used (entry_named a.name.octets.now) (value a.v.number a.v.payload.octets.now a.v.remaining) (is_marked a.v.marks) in
+    subst (Inserts r s s) (sym c.from_residual.ensures) (insert_full s r (sym c.free_row.ensures ∙ ap place_of c.in_err-i.was))
 
-pub returns-in-At : goal.returns-in-At
-returns-in-At c =
+pub returns : goal.returns
+returns c =
     let a = c.args in
-    insert_stored a.memory.now c.put_row.new.memory c.in-At.i (entry_named a.name.now) (value a.number a.payload.now a.remaining)
-    (is_marked a.marks) (sym c.free_row.ensures ∙ c.in-At.is) c.put_row.ensures.memory_after
-
-pub returns-in-Nothing : goal.returns-in-Nothing
-returns-in-Nothing c =
-    let a = c.args in
-    insert_full a.memory.now (used (entry_named a.name.now) (value a.number a.payload.now a.remaining) (is_marked a.marks))
-    (sym c.free_row.ensures ∙ c.in-Nothing.is)
+    let i = c.in_ok-i.i in
+    let e = sym c.free_row.ensures ∙ ap place_of c.in_ok-i.was in
+    insert_stored a.memory.now c.put_row.new.memory (Some i) i.at (entry_named a.name.octets.now) (value a.v.number a.v.payload.octets.now a.v.remaining)
+    (is_marked a.v.marks) (sym e) e c.put_row.ensures.memory_after

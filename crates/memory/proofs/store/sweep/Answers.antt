@@ -1,24 +1,27 @@
-use Rattle.std.proofs.Common.{refl, ◌∙◌}
+use Rattle.std.proofs.Common.{arith}
 use Rattle.rules.specs.Rows.{swept_row}
 use Rattle.memory.proofs.MarkLaws.{as_changed}
 use Rattle.memory.proofs.RowLoops.{changed_more, changed_all}
 use Rattle.memory.proofs.RowSweep.{swept_first}
 use Rattle.memory.proofs.store.sweep.Goals as goal
 
-pub loop-i-init : goal.loop-i-init
-loop-i-init c = (refl, swept_first c.args.memory.now c.first_last-i.result c.first_last-i.ensures)
+pub loop-at-init : goal.loop-at-init
+loop-at-init c =
+    swept_first c.args.memory.now c.in-Some.first.at (λ j a b. c.in-Some.ensures j a)
 
-pub loop-i-preserved : goal.loop-i-preserved
-loop-i-preserved c =
+pub loop-at-preserved : goal.loop-at-preserved
+loop-at-preserved c =
     let a = c.args.memory.now in
-    let l = c.loop-i in
+    let l = c.loop-at in
     let q = c.sweep_row in
-    let h = c.loop-i-test.true in (
-      q.auto.memory ∙ l.invariant.0,
-      changed_more swept_row a l.memory l.i l.invariant.1 q.new.memory h
-          (as_changed swept_row l.memory q.new.memory l.i h q.ensures),
-    )
+    let h = c.loop-at-test.true in
+    changed_more swept_row a l.memory l.at l.invariant q.new.memory h (as_changed swept_row l.memory q.new.memory l.at h q.ensures)
 
-pub returns : goal.returns
-returns c =
-    changed_all swept_row c.args.memory.now c.loop-i.memory c.loop-i.i c.loop-i.invariant.1 c.loop-i-test.false
+pub returns-after-loop-at : goal.returns-after-loop-at
+returns-after-loop-at c =
+    changed_all swept_row c.args.memory.now c.loop-at.memory c.loop-at.at c.loop-at.invariant c.loop-at-test.false
+
+pub returns-in_default : goal.returns-in_default
+returns-in_default c =
+    let s = c.args.memory.now in
+    changed_all swept_row s s 64 (swept_first s 64 (λ j a b. c.in_default.ensures j a)) (omega arith)

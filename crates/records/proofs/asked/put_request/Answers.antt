@@ -7,9 +7,8 @@ use Rattle.records.proofs.asked.put_request.Goals as goal
 pub returns : goal.returns
 returns c =
     let a = c.args in
-    let w = c.requires in
     let q = c.put_summary in
     let x = c.name_at in
     let y = c.number_at-number in
     puts_as 32 a.at a.out.now q.new.out q.result (ap (λ (r : CsaRecord). r ∷ [])
-    (request_put a.memory.now a.k a.i x.result.now y.result w.0.0 w.0.1.0 w.0.1.1 x.ensures.0 y.ensures)) q.ensures
+    (request_put a.memory.now a.k.at a.i.at x.result.now y.result (search) a.k.below a.i.below x.ensures.0 y.ensures)) q.ensures

@@ -10,12 +10,11 @@ use Rattle.records.proofs.held.put_row.Goals as goal
 pub returns : goal.returns
 returns c =
     let a = c.args in
-    let w = c.requires in
     let q = c.put_record in
     let y = c.payload_of in
     let x = c.entry_of in
     let z = c.number_of-number in
     puts_as 64 a.at a.out.now q.new.out q.result (ap (λ (r : CsaRecord). r ∷ [])
-    (row_record a.memory.now a.i w.0.0 w.0.1 x.result.now x.ensures.0 z.result z.ensures a.hops y.result.now
+    (row_record a.memory.now a.i.at (search) a.i.below x.result.now x.ensures.0 z.result z.ensures a.hops y.result.now
     y.ensures.0)) (puts_one 64 (entry_record a.hops false z.result (entry_named x.result.now) y.result.now) a.at
     (length x.result.now) (length y.result.now) a.out.now q.new.out q.result q.ensures (omega (arith, x.ensures.1, y.ensures.1)))

@@ -1,39 +1,40 @@
-use Rattle.std.proofs.Common.{◌∙◌}
-use Rattle.records.proofs.WalkLaws.{walk_fits}
+use Rattle.records.proofs.WalkLaws.{few_records}
 use Rattle.records.proofs.SolicitedLaws.{soliciting_none, soliciting_all, soliciting_waits, soliciting_room, soliciting_more}
+use Rattle.records.specs.Views.{csa_of, records_in}
 use Rattle.records.proofs.solicited.solicit_all.Goals as goal
 
-pub loop-left-init : goal.loop-left-init
-loop-left-init c = let a = c.args in soliciting_none a.k a.memory.now a.p.now a.c a.out.now c.requires.1.0
+pub loop-v-init : goal.loop-v-init
+loop-v-init c =
+    let a = c.args in
+    rw c.into_iter-v-iterator.ensures.into_iter_gives
+    (soliciting_none a.k.at a.memory.now (records_in a.records) a.out.now (few_records a.records))
 
 pub solicit_one-to-requires : goal.solicit_one-to-requires
 solicit_one-to-requires c =
     let a = c.args in
-    let l = c.loop-left in
-    let t = c.loop-left-test.true in (
-      (l.invariant.size ∙ c.requires.0.0, c.requires.0.1),
-      (
-        walk_fits a.p.now l.at l.left l.invariant.walks t,
-        soliciting_room a.k a.memory.now a.p.now a.c a.out.now l.memory l.out
-            l.at l.left l.to l.invariant t c.requires.1.1,
-      ),
-    )
+    let l = c.loop-v in
+    soliciting_room a.k.at a.memory.now (records_in a.records) a.out.now l.memory l.out (records_in l.v-iterator) l.to
+    l.invariant (csa_of c.in-Some.v) (records_in c.next.new.self) c.in-Some.ensures.steps c.requires
 
-pub loop-left-preserved : goal.loop-left-preserved
-loop-left-preserved c =
+pub loop-v-preserved : goal.loop-v-preserved
+loop-v-preserved c =
     let a = c.args in
-    let l = c.loop-left in
+    let l = c.loop-v in
     let q = c.solicit_one-to in
-    soliciting_more a.k a.memory.now a.p.now a.c a.out.now l.memory l.out l.at l.left l.to l.invariant
-    c.loop-left-test.true c.requires.1.1 q.new.memory q.new.out q.result c.size-at.result
-    q.auto.memory q.auto.out q.ensures c.size-at.ensures
+    soliciting_more a.k.at a.memory.now (records_in a.records) a.out.now l.memory l.out (records_in l.v-iterator) l.to
+    l.invariant (csa_of c.in-Some.v) (records_in c.next.new.self) c.in-Some.ensures.steps c.requires q.new.memory q.new.out
+    q.result q.auto.out q.ensures
 
-pub returns : goal.returns
-returns c =
+pub returns-clause-puts : goal.returns-clause-puts
+returns-clause-puts c =
     let a = c.args in
-    let l = c.loop-left in
-    let done = c.loop-left-test.false in
-    record {
-      puts = soliciting_all a.k a.memory.now a.p.now a.c a.out.now l.memory l.out l.at l.left l.to l.invariant done;
-      waits = soliciting_waits a.k a.memory.now a.p.now a.c a.out.now l.memory l.out l.at l.left l.to l.invariant done;
-    }
+    let l = c.loop-v in
+    soliciting_all a.k.at a.memory.now (records_in a.records) a.out.now l.memory l.out (records_in l.v-iterator) l.to
+    l.invariant c.in-None.ensures.steps.0
+
+pub returns-clause-waits : goal.returns-clause-waits
+returns-clause-waits c =
+    let a = c.args in
+    let l = c.loop-v in
+    soliciting_waits a.k.at a.memory.now (records_in a.records) a.out.now l.memory l.out (records_in l.v-iterator) l.to
+    l.invariant c.in-None.ensures.steps.0

@@ -1,43 +1,18 @@
-use Rattle.std.proofs.Common.{refl, ◌∙◌, ◌+◌, ◌-◌}
 use Rattle.records.proofs.StepLaws.{takes_end, takes_then}
-use Rattle.records.proofs.WalkLaws.{cursor, walk_start, walk_fits, walk_step, walk_on, walk_end}
-use Rattle.records.specs.Walks.{csa_at}
-use Rattle.wire.specs.Views.{records_of}
+use Rattle.records.specs.Views.{csa_of, records_in}
 use Rattle.records.proofs.summaries.take_all.Goals as goal
 
-pub loop-left-init : goal.loop-left-init
-loop-left-init c = (refl, (walk_start c.args.p.now c.args.c c.requires.1.1, λ u r h. h))
-
-pub take_one-n-requires : goal.take_one-n-requires
-take_one-n-requires c =
-    let l = c.loop-left in (
-      l.invariant.0 ∙ c.requires.0,
-      (c.requires.1.0, walk_fits c.args.p.now l.at l.left l.invariant.1.0 c.loop-left-test.true),
-    )
-
-pub loop-left-preserved : goal.loop-left-preserved
-loop-left-preserved c =
-    let a = c.args in
-    let p = a.p.now in
-    let l = c.loop-left in
-    let q = c.take_one-n in
-    let z = c.size-at in
-    let w = l.invariant.1.0 in
-    let some = c.loop-left-test.true in (
-      q.auto.memory ∙ l.invariant.0,
-      (
-        walk_on p l.at l.left w some z.result z.ensures,
-        λ u x h. l.invariant.1.1 u x
-            (takes_then a.k (csa_at p l.at) l.n l.memory q.new.memory q.result c.requires.1.0 q.ensures
-            (records_of p (cursor l.at l.left)) (records_of p (cursor (l.at + z.result) (l.left - 1)))
-            (walk_step p l.at l.left w some z.result z.ensures) u x h),
-      ),
-    )
+pub loop-v-preserved : goal.loop-v-preserved
+loop-v-preserved c u r h =
+    let k = c.args.k in
+    let l = c.loop-v in
+    let q = c.take_in-n in
+    l.invariant u r
+    (takes_then k.at (csa_of c.in-Some.v) l.n l.memory q.new.memory q.result k.below
+    (record { list = q.ensures.list; count = q.ensures.count }) (records_in l.v-iterator) (records_in c.next.new.self)
+    c.in-Some.ensures.steps u r h)
 
 pub returns : goal.returns
 returns c =
-    let a = c.args in
-    let p = a.p.now in
-    let l = c.loop-left in
-    l.invariant.1.1 l.memory l.n
-    (takes_end a.k l.memory l.n (records_of p (cursor l.at l.left)) (walk_end p l.at l.left c.loop-left-test.false))
+    let l = c.loop-v in
+    l.invariant l.memory l.n (takes_end c.args.k.at l.memory l.n (records_in l.v-iterator) c.in-None.ensures.steps.0)

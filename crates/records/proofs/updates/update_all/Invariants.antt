@@ -1,10 +1,9 @@
--- What all records do is what those from `at` on do to what is there now; a summary was put for each that was acknowledged.
+-- What all records do is what those that are left do to what is there now; a summary was put for each that was acknowledged.
+use Rattle.records.specs.Views.{records_in}
 use Rattle.records.proofs.UpdateLaws.{Updating}
 use Rattle.memory.specs.Memory.{is_marked}
 use Rattle.records.proofs.updates.update_all.Given as goal
 
-abbrev pub invariant-loop-left : goal.invariant-loop-left
-invariant-loop-left l = Updating (is_marked l.live) l.k l.p l.fn.c l.fn.memory l.fn.out l.memory l.out l.at l.left l.to
-
-abbrev pub decreases-loop-left : goal.decreases-loop-left
-decreases-loop-left l = l.left
+abbrev pub invariant-loop-v : goal.invariant-loop-v
+invariant-loop-v l =
+    Updating (is_marked l.live) l.k.at (records_in l.fn.records) l.fn.memory l.fn.out l.memory l.out (records_in l.v-iterator) l.to

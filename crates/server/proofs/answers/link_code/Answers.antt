@@ -1,19 +1,25 @@
--- The refusals in their order: no slot, no peer in it, an earlier time.
-use Rattle.std.proofs.Common.{sym, ◌∙◌}
+-- The refusals in their order: no peer in the slot, an earlier time.
+use Rattle.std.proofs.Common.{rules, ◌≡◌, sym, ◌∙◌}
 use Rattle.server.proofs.CodeLaws.{code_unused, code_early, code_none}
 use Rattle.server.proofs.answers.link_code.Goals as goal
 
-pub returns-then-not-used_at : goal.returns-then-not-used_at
-returns-then-not-used_at c = λ m.
+pub returns-then-not-used_at-clause-code : goal.returns-then-not-used_at-clause-code
+returns-then-not-used_at-clause-code c = λ m.
     let a = c.args in
-    code_unused a.s a.slots.now a.k a.time m c.if-k-ge8.false (sym c.used_at.ensures ∙ c.if-not-used_at.true)
+    let k = c.in_ok-k.k in
+    let q : k.at ≡ a.slot = search rules in
+    code_unused a.s a.slots.now k a.slot a.time q m (sym c.used_at.ensures ∙ c.if-not-used_at.true)
 
-pub returns-then-time-s : goal.returns-then-time-s
-returns-then-time-s c = λ m.
+pub returns-then-time-s-clause-code : goal.returns-then-time-s-clause-code
+returns-then-time-s-clause-code c = λ m.
     let a = c.args in
-    code_early a.s a.slots.now a.k a.time m c.if-k-ge8.false (sym c.used_at.ensures ∙ c.if-not-used_at.false) c.if-time-s.true
+    let k = c.in_ok-k.k in
+    let q : k.at ≡ a.slot = search rules in
+    code_early a.s a.slots.now k a.slot a.time q m (sym c.used_at.ensures ∙ c.if-not-used_at.false) c.if-time-s.true
 
-pub returns : goal.returns
-returns c = λ m.
+pub returns-clause-code : goal.returns-clause-code
+returns-clause-code c = λ m.
     let a = c.args in
-    code_none a.s a.slots.now a.k a.time m c.if-k-ge8.false (sym c.used_at.ensures ∙ c.if-not-used_at.false) c.if-time-s.false
+    let k = c.in_ok-k.k in
+    let q : k.at ≡ a.slot = search rules in
+    code_none a.s a.slots.now k a.slot a.time q m (sym c.used_at.ensures ∙ c.if-not-used_at.false) c.if-time-s.false

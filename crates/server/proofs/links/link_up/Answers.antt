@@ -1,49 +1,31 @@
 -- Refused as the link's code says; else the slot moves up and the event ends.
-use Rattle.std.proofs.Common.{refl, ◌∙◌}
+use Rattle.std.proofs.Common.{rules, ◌≡◌, ℕ, refl, sym, ap, subst, ◌∙◌}
 use Rattle.rules.specs.Events.{link_up, code_of}
-use Rattle.server.specs.State.{server_of}
-use Rattle.server.proofs.DoesLaws.{link_taken, does_refused}
+use Rattle.rules.specs.Refusals.{link_code}
+use Rattle.server.proofs.DoesLaws.{does_refused}
+use Rattle.server.specs.State.{server_of, Steps}
 use Rattle.server.proofs.LinkLaws.{does_silent}
 use Rattle.server.proofs.links.link_up.Goals as goal
 
-pub alignment_at-from-requires : goal.alignment_at-from-requires
-alignment_at-from-requires c =
-    let a = c.args in
-    let o = c.link_code in
-    (c.requires.0, link_taken (server_of a.s a.slots.now a.memory.now) a.k a.time o.result (o.ensures a.memory.now) c.in-Taken.is)
-
-pub up-requires : goal.up-requires
-up-requires c =
-    let a = c.args in
-    let o = c.link_code in
-    let k = link_taken (server_of a.s a.slots.now a.memory.now) a.k a.time o.result (o.ensures a.memory.now) c.in-Taken.is in
-    (c.requires.0, (c.requires.1, k))
-
-pub taken-requires : goal.taken-requires
-taken-requires c =
-    let a = c.args in
-    let o = c.link_code in
-    let u = c.up in
-    let k = link_taken (server_of a.s a.slots.now a.memory.now) a.k a.time o.result (o.ensures a.memory.now) c.in-Taken.is in
-    (u.auto.slots ∙ c.requires.0, (u.auto.memory ∙ c.requires.1, k))
-
-pub returns-in-Refused : goal.returns-in-Refused
+pub returns-in-Err : goal.returns-in-Err
 unfolding code_of
-returns-in-Refused c =
+returns-in-Err c =
     let a = c.args in
-    let o = c.link_code in
-    does_refused (link_up a.k a.time) a.s a.slots.now a.memory.now (λ _. refl) o.result c.in-Refused.f
-    c.refuse.result (o.ensures a.memory.now) c.in-Refused.is c.refuse.ensures
+    does_refused (link_up a.slot a.time) a.s a.slots.now a.memory.now (λ _. refl) c.link_code.result c.in-Err.f
+    c.refuse.result (c.link_code.ensures.code a.memory.now) c.in-Err.is c.refuse.ensures
 
-pub returns-in-Taken : goal.returns-in-Taken
+pub returns-in-Ok : goal.returns-in-Ok
 unfolding code_of
-returns-in-Taken c =
+returns-in-Ok c =
     let a = c.args in
     let o = c.link_code in
+    let k = c.in-Ok.k in
     let u = c.up in
     let d = c.taken in
     let from = c.alignment_at-from in
-    let k = link_taken (server_of a.s a.slots.now a.memory.now) a.k a.time o.result (o.ensures a.memory.now) c.in-Taken.is in
-    does_silent (link_up a.k a.time) a.s a.slots.now u.new.slots a.k a.time a.memory.now u.new.memory d.new.memory
-    o.result from.result d.result k refl refl refl refl (o.ensures a.memory.now) c.in-Taken.is from.ensures
-    u.ensures.1 u.ensures.0 d.ensures.0 d.ensures.1
+    let q : k.at ≡ a.slot = search rules in
+    subst (λ (j : ℕ). Steps (link_up j a.time) a.s a.slots.now u.new.slots a.memory.now d.new.memory d.result) q
+    (does_silent (link_up k.at a.time) a.s a.slots.now u.new.slots k.at a.time a.memory.now u.new.memory d.new.memory
+    o.result from.result d.result k.below refl refl refl refl
+    (o.ensures.code a.memory.now ∙ ap (λ (j : ℕ). link_code (server_of a.s a.slots.now a.memory.now) j a.time) (sym q)) c.in-Ok.is from.ensures
+    u.ensures.1 u.ensures.0 d.ensures.0 d.ensures.1)

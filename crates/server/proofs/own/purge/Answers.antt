@@ -1,55 +1,29 @@
--- A key that is not good is refused. Else the row of the entry is found, and the code is told by that row: it refuses, or the row is changed.
--- Assumes nothing.
-use Rattle.std.proofs.Common.{rules, refl, sym, ◌∙◌}
-use Rattle.rules.specs.Server.{holds}
+-- Refused as the row tells; else the row is changed, then swept.
+use Rattle.std.proofs.Common.{refl, sym}
+use Rattle.memory.specs.Memory.{is_marked}
 use Rattle.rules.specs.Refusals.{own_entry}
-use Rattle.rules.specs.Events.{code_of}
+use Rattle.rules.specs.Updates.{purge_rows}
 use Rattle.rules.specs.Events as events
+use Rattle.rules.specs.Events.{live_in, code_of}
 use Rattle.slots.specs.State.{settings_of}
-use Rattle.slots.specs.declared.answers.Failure.TheVariants.{Size}
-use Rattle.slots.specs.declared.answers.Outcome.TheVariants.{Refused}
-use Rattle.memory.proofs.EntryLaws.{found_some}
-use Rattle.server.specs.State.{server_of}
+use Rattle.server.specs.State.{slots_of}
 use Rattle.server.proofs.DoesLaws.{does_refused}
-use Rattle.server.proofs.OwnLaws.{key_room_lem, purge_key, purge_does}
+use Rattle.server.proofs.OwnLaws.{swept_after, purge_does}
 use Rattle.server.proofs.own.purge.Goals as goal
 
-pub returns-then-not-key_good : goal.returns-then-not-key_good
+pub returns-in-Err : goal.returns-in-Err
 unfolding code_of
-returns-then-not-key_good c =
+returns-in-Err c =
     let a = c.args in
-    does_refused (events.purge a.key.now) a.s a.slots.now a.memory.now (λ _. refl) (Refused Size) Size c.refuse.result
-    (purge_key (server_of a.s a.slots.now a.memory.now) a.key.now (sym c.key_good.ensures ∙ c.if-not-key_good.true)) refl
-    c.refuse.ensures
+    does_refused (events.purge a.key.now) a.s a.slots.now a.memory.now (λ _. refl) c.purge_row.result c.in-Err.f c.refuse.result
+    (c.purge_row.ensures.code a.slots.now) c.in-Err.is c.refuse.ensures
 
-pub row_of-found-requires : goal.row_of-found-requires
-row_of-found-requires c =
-    (c.requires.1, key_room_lem c.args.key.now c.args.s.settings.id (sym c.key_good.ensures ∙ c.if-not-key_good.false) (search rules))
-
-pub purge_code-requires : goal.purge_code-requires
-purge_code-requires c =
+pub returns-in-Ok : goal.returns-in-Ok
+returns-in-Ok c =
     let a = c.args in
-    (c.requires.1, found_some (holds (own_entry (settings_of a.s.settings) a.key.now)) a.memory.now c.row_of-found.result c.row_of-found.ensures)
-
-pub purge_taken-requires : goal.purge_taken-requires
-purge_taken-requires c =
-    let a = c.args in
-    (c.requires, found_some (holds (own_entry (settings_of a.s.settings) a.key.now)) a.memory.now c.row_of-found.result c.row_of-found.ensures)
-
-pub returns-in-Refused : goal.returns-in-Refused
-unfolding code_of
-returns-in-Refused c =
-    let a = c.args in
-    let code = c.purge_code in
-    does_refused (events.purge a.key.now) a.s a.slots.now a.memory.now (λ _. refl) code.result c.in-Refused.f c.refuse-in-Refused.result
-    (code.ensures a.s a.slots.now a.key.now (sym c.key_good.ensures ∙ c.if-not-key_good.false) c.row_of-found.ensures) c.in-Refused.is
-    c.refuse-in-Refused.ensures
-
-pub returns-in-Taken : goal.returns-in-Taken
-returns-in-Taken c =
-    let a = c.args in
-    let code = c.purge_code in
-    purge_does a.s a.slots.now a.memory.now c.purge_taken.new.memory a.key.now code.result c.take.result c.in-Taken.is
-    c.take.ensures
-    (code.ensures a.s a.slots.now a.key.now (sym c.key_good.ensures ∙ c.if-not-key_good.false) c.row_of-found.ensures)
-    (c.purge_taken.ensures (own_entry (settings_of a.s.settings) a.key.now) c.row_of-found.ensures)
+    let e = own_entry (settings_of a.s.settings) a.key.now in
+    let m = c.purge_entry in
+    purge_does a.s a.slots.now a.memory.now c.sweep.new.memory a.key.now c.purge_row.result c.take.result c.in-Ok.is c.take.ensures
+    (c.purge_row.ensures.code a.slots.now)
+    (swept_after (λ live. purge_rows live e) a.memory.now m.new.memory c.sweep.new.memory (is_marked c.live_of.result)
+    (live_in (slots_of a.slots.now a.memory.now)) (c.live_of.ensures a.memory.now) (m.ensures.memory_after e (sym c.in-Ok.ensures.row)) c.sweep.ensures)

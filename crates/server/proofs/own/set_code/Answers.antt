@@ -1,31 +1,26 @@
--- The row that was found tells spent and held; a free row tells the rest.
-use Rattle.std.proofs.Common.{sym, ◌∙◌}
-use Rattle.rules.specs.Refusals.{own_entry}
-use Rattle.slots.specs.State.{settings_of}
-use Rattle.server.specs.State.{server_of}
-use Rattle.server.proofs.OwnLaws.{set_spent, set_held, set_new, set_full}
+-- The row that was found tells spent and held; where none was, a free row tells.
+use Rattle.std.proofs.Common.{sym, ap, ◌∙◌}
+use Rattle.memory.specs.Search.{place_of}
+use Rattle.protocol.specs.Numbers.{spent}
+use Rattle.server.proofs.OwnLaws.{set_none, set_held}
 use Rattle.server.proofs.own.set_code.Goals as goal
 
-pub returns-then-o : goal.returns-then-o
-returns-then-o c = λ s slots key payload good fits g.
-    let own = c.own_of-o in
-    set_spent (server_of s slots c.args.memory.now) key good own.result (own.ensures (own_entry (settings_of s.settings) key) g)
-    payload fits c.if-o.true
+pub returns-in-Some : goal.returns-in-Some
+returns-in-Some c = λ s slots key payload good fits g.
+    let i = c.in-Some.i in
+    set_held s slots c.args.memory.now key good i.at (sym g ∙ ap place_of c.in-Some.is) payload fits
+    (ap spent (sym c.number_of.ensures) ∙ sym c.is_spent.ensures ∙ c.if-is_spent.true)
 
-pub returns-then-o-2 : goal.returns-then-o-2
-returns-then-o-2 c = λ s slots key payload good fits g.
-    let own = c.own_of-o in
-    set_held (server_of s slots c.args.memory.now) key good own.result (own.ensures (own_entry (settings_of s.settings) key) g)
-    payload fits c.if-o.false c.if-o-2.true
+pub returns-in-None : goal.returns-in-None
+returns-in-None c = λ s slots key payload good fits g.
+    set_none s slots c.args.memory.now key good (sym g ∙ ap place_of c.in-None.is) payload fits (sym c.has_free.ensures ∙ c.if-not-has_free.true)
 
-pub returns-then-has_free : goal.returns-then-has_free
-returns-then-has_free c = λ s slots key payload good fits g.
-    let own = c.own_of-o in
-    set_new (server_of s slots c.args.memory.now) key good own.result (own.ensures (own_entry (settings_of s.settings) key) g)
-    payload fits c.if-o.false c.if-o-2.false (sym c.has_free.ensures ∙ c.if-has_free.true)
+pub returns-in_default : goal.returns-in_default
+returns-in_default c = λ s slots key payload good fits g.
+    let i = c.in-Some.i in
+    set_held s slots c.args.memory.now key good i.at (sym g ∙ ap place_of c.in-Some.is) payload fits
+    (ap spent (sym c.number_of.ensures) ∙ sym c.is_spent.ensures ∙ c.if-is_spent.false)
 
-pub returns : goal.returns
-returns c = λ s slots key payload good fits g.
-    let own = c.own_of-o in
-    set_full (server_of s slots c.args.memory.now) key good own.result (own.ensures (own_entry (settings_of s.settings) key) g)
-    payload fits c.if-o.false c.if-o-2.false (sym c.has_free.ensures ∙ c.if-has_free.false)
+pub returns-in_default-2 : goal.returns-in_default-2
+returns-in_default-2 c = λ s slots key payload good fits g.
+    set_none s slots c.args.memory.now key good (sym g ∙ ap place_of c.in-None.is) payload fits (sym c.has_free.ensures ∙ c.if-not-has_free.false)

@@ -1,38 +1,35 @@
--- The entry that the name tells is ours, so the row that was found for it tells the code: it refuses, or the entry is set.
--- Assumes nothing.
+-- The entry that the name tells is ours, so the row that was found for it tells the code: it refuses, or the entry is set, and the rows swept.
 use Rattle.std.proofs.Common.{refl}
-use Rattle.rules.specs.Server.{holds}
 use Rattle.rules.specs.Refusals.{own_entry}
-use Rattle.rules.specs.Events.{code_of}
+use Rattle.rules.specs.Updates.{set_rows}
 use Rattle.rules.specs.Events as events
+use Rattle.rules.specs.Events.{live_in, code_of}
 use Rattle.slots.specs.State.{settings_of}
-use Rattle.memory.specs.Memory.{entry_named}
-use Rattle.memory.proofs.EntryLaws.{found_some}
+use Rattle.memory.specs.Memory.{entry_named, is_marked}
+use Rattle.memory.specs.Search.{place_of}
+use Rattle.server.specs.State.{slots_of}
 use Rattle.server.proofs.DoesLaws.{does_refused}
-use Rattle.server.proofs.OwnLaws.{found_same, set_does}
+use Rattle.server.proofs.OwnLaws.{found_same, swept_after, set_does}
 use Rattle.server.proofs.own.set_named.Goals as goal
 
-pub set_code-requires : goal.set_code-requires
-set_code-requires c =
-    let a = c.args in
-    (c.requires.0.1, found_some (holds (entry_named a.name.now)) a.memory.now c.find-found.result c.find-found.ensures)
-
-pub returns-in-Refused : goal.returns-in-Refused
+pub returns-in-Err : goal.returns-in-Err
 unfolding code_of
-returns-in-Refused c = λ key good fits e.
+returns-in-Err c = λ key good fits e.
     let a = c.args in
     let code = c.set_code in
     let f = c.find-found in
-    let found = found_same f.result a.memory.now (entry_named a.name.now) (own_entry (settings_of a.s.settings) key) e f.ensures in
-    does_refused (events.set key a.payload.now) a.s a.slots.now a.memory.now (λ _. refl) code.result c.in-Refused.f c.refuse.result
-    (code.ensures a.s a.slots.now key a.payload.now good fits found) c.in-Refused.is c.refuse.ensures
+    let found = found_same (place_of f.result) a.memory.now (entry_named a.name.octets.now) (own_entry (settings_of a.s.settings) key) e f.ensures in
+    does_refused (events.set key a.payload.octets.now) a.s a.slots.now a.memory.now (λ _. refl) code.result c.in-Err.f c.refuse.result
+    (code.ensures a.s a.slots.now key a.payload.octets.now good fits found) c.in-Err.is c.refuse.ensures
 
-pub returns-in-Taken : goal.returns-in-Taken
-returns-in-Taken c = λ key good fits e.
+pub returns-in-Ok : goal.returns-in-Ok
+returns-in-Ok c = λ key good fits e.
     let a = c.args in
     let code = c.set_code in
     let f = c.find-found in
-    let found = found_same f.result a.memory.now (entry_named a.name.now) (own_entry (settings_of a.s.settings) key) e f.ensures in
-    set_does a.s a.slots.now a.memory.now c.set_taken.new.memory key code.result c.take.result c.in-Taken.is c.take.ensures
-    a.payload.now (entry_named a.name.now) e
-    (code.ensures a.s a.slots.now key a.payload.now good fits found) c.set_taken.ensures
+    let m = c.set_entry in
+    let found = found_same (place_of f.result) a.memory.now (entry_named a.name.octets.now) (own_entry (settings_of a.s.settings) key) e f.ensures in
+    set_does a.s a.slots.now a.memory.now c.sweep.new.memory key code.result c.take.result c.in-Ok.is c.take.ensures
+    a.payload.octets.now (entry_named a.name.octets.now) e (code.ensures a.s a.slots.now key a.payload.octets.now good fits found)
+    (swept_after (λ live. set_rows live (entry_named a.name.octets.now) a.payload.octets.now) a.memory.now m.new.memory c.sweep.new.memory
+    (is_marked c.live_of.result) (live_in (slots_of a.slots.now a.memory.now)) (c.live_of.ensures a.memory.now) m.ensures c.sweep.ensures)

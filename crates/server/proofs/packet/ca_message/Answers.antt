@@ -9,34 +9,29 @@ use Rattle.slots.specs.State.{settings_of, rule_of}
 use Rattle.wire.specs.Views.{message_of}
 use Rattle.server.proofs.packet.ca_message.Goals as goal
 
-pub rule_for-rule-requires : goal.rule_for-rule-requires
-rule_for-rule-requires c = (c.requires.0.1, c.requires.1.0.0)
-
-pub returns-in-Refused : goal.returns-in-Refused
-returns-in-Refused c =
+pub returns-in-Err : goal.returns-in-Err
+returns-in-Err c =
     let a = c.args in
-    let q = c.requires in
     let x = c.slot_at-x in
-    let u = ca_unusable a.p.now a.h (settings_of a.s.settings) a.slots.now a.memory.now a.k x.result
-    c.is_refuse.result (rule_of c.rule_for-rule.result) q.1.1.1 x.ensures c.rule_for-rule.ensures
+    let u = ca_unusable a.p.octets.now a.p.head (settings_of a.s.settings) a.slots.now a.memory.now a.k.at x.result
+    c.is_refuse.result (rule_of c.rule_for-rule.result) c.requires.1 x.ensures c.rule_for-rule.ensures
     c.is_refuse.ensures in
-    let code = c.message_code.ensures (slot_now a.slots.now a.k a.memory.now) (ap (λ (z : Slot). z.peer) (sym x.ensures)) u in
-    message_refused a.p.now a.k a.time a.s a.slots.now a.memory.now q.1.0.0 (message_of a.p.now a.h)
-    c.message_code.result code c.in-Refused.f c.refuse.result a.out.now c.in-Refused.is c.refuse.ensures
+    let code = c.message_code.ensures (slot_now a.slots.now a.k.at a.memory.now) (ap (λ (z : Slot). z.peer) (sym x.ensures)) u in
+    message_refused a.p.octets.now a.k.at a.time a.s a.slots.now a.memory.now a.k.below (message_of a.p.octets.now a.p.head)
+    c.message_code.result code c.in-Err.f c.refuse.result a.out.now c.in-Err.is c.refuse.ensures
 
-pub returns-in-Taken : goal.returns-in-Taken
-returns-in-Taken c =
+pub returns-in-Ok : goal.returns-in-Ok
+returns-in-Ok c =
     let a = c.args in
-    let q = c.requires in
     let x = c.slot_at-x in
     let t = c.take_ca-n in
     let d = c.taken in
     let from = c.alignment_at-from in
-    let u = ca_unusable a.p.now a.h (settings_of a.s.settings) a.slots.now a.memory.now a.k x.result
-    c.is_refuse.result (rule_of c.rule_for-rule.result) q.1.1.1 x.ensures c.rule_for-rule.ensures
+    let u = ca_unusable a.p.octets.now a.p.head (settings_of a.s.settings) a.slots.now a.memory.now a.k.at x.result
+    c.is_refuse.result (rule_of c.rule_for-rule.result) c.requires.1 x.ensures c.rule_for-rule.ensures
     c.is_refuse.ensures in
-    let code = c.message_code.ensures (slot_now a.slots.now a.k a.memory.now) (ap (λ (z : Slot). z.peer) (sym x.ensures)) u in
-    message_taken a.p.now a.k a.time a.s a.slots.now a.memory.now q.1.0.0 (message_of a.p.now a.h)
+    let code = c.message_code.ensures (slot_now a.slots.now a.k.at a.memory.now) (ap (λ (z : Slot). z.peer) (sym x.ensures)) u in
+    message_taken a.p.octets.now a.k.at a.time a.s a.slots.now a.memory.now a.k.below (message_of a.p.octets.now a.p.head)
     c.message_code.result code t.new.slots t.new.memory d.new.memory a.out.now t.new.out
-    false from.result t.result d.result c.in-Taken.is
-    (sym (ap body_changes (body_is a.p.now a.h (is_ca_lem a.h.kind q.1.1.1)))) from.ensures t.ensures d.ensures.0 d.ensures.1
+    false from.result t.result d.result c.in-Ok.is
+    (sym (ap body_changes (body_is a.p.octets.now a.p.head (is_ca_lem a.p.head.kind c.requires.1)))) from.ensures t.ensures d.ensures.0 d.ensures.1

@@ -6,27 +6,25 @@ use Rattle.slots.specs.State.{settings_of}
 use Rattle.wire.specs.Views.{message_of}
 use Rattle.server.proofs.packet.other_message.Goals as goal
 
-pub returns-in-Refused : goal.returns-in-Refused
-returns-in-Refused c =
+pub returns-in-Err : goal.returns-in-Err
+returns-in-Err c =
     let a = c.args in
-    let q = c.requires in
-    let x = slot_now a.slots.now a.k a.memory.now in
+    let x = slot_now a.slots.now a.k.at a.memory.now in
     let code = c.message_code.ensures x (sym c.peer_at-peer.ensures)
-    (c.unusable.ensures (settings_of a.s.settings) a.p.now x q.1.1.1 (sym c.alignment_at-from.ensures)) in
-    message_refused a.p.now a.k a.time a.s a.slots.now a.memory.now q.1.0.0 (message_of a.p.now a.h)
-    c.message_code.result code c.in-Refused.f c.refuse.result a.out.now c.in-Refused.is c.refuse.ensures
+    (c.unusable.ensures (settings_of a.s.settings) a.p.octets.now x c.requires.1 (sym c.alignment_at-from.ensures)) in
+    message_refused a.p.octets.now a.k.at a.time a.s a.slots.now a.memory.now a.k.below (message_of a.p.octets.now a.p.head)
+    c.message_code.result code c.in-Err.f c.refuse.result a.out.now c.in-Err.is c.refuse.ensures
 
-pub returns-in-Taken : goal.returns-in-Taken
-returns-in-Taken c =
+pub returns-in-Ok : goal.returns-in-Ok
+returns-in-Ok c =
     let a = c.args in
-    let q = c.requires in
-    let x = slot_now a.slots.now a.k a.memory.now in
+    let x = slot_now a.slots.now a.k.at a.memory.now in
     let t = c.act-n in
     let d = c.taken in
     let from = c.alignment_at-from in
     let code = c.message_code.ensures x (sym c.peer_at-peer.ensures)
-    (c.unusable.ensures (settings_of a.s.settings) a.p.now x q.1.1.1 (sym from.ensures)) in
-    message_taken a.p.now a.k a.time a.s a.slots.now a.memory.now q.1.0.0 (message_of a.p.now a.h)
+    (c.unusable.ensures (settings_of a.s.settings) a.p.octets.now x c.requires.1 (sym from.ensures)) in
+    message_taken a.p.octets.now a.k.at a.time a.s a.slots.now a.memory.now a.k.below (message_of a.p.octets.now a.p.head)
     c.message_code.result code t.new.slots t.new.memory d.new.memory a.out.now t.new.out
-    c.changes_rows.result from.result t.result d.result c.in-Taken.is
-    (c.changes_rows.ensures a.p.now) from.ensures t.ensures d.ensures.0 d.ensures.1
+    c.changes_rows.result from.result t.result d.result c.in-Ok.is
+    (c.changes_rows.ensures a.p.octets.now) from.ensures t.ensures d.ensures.0 d.ensures.1

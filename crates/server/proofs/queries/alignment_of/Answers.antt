@@ -3,4 +3,4 @@ use Rattle.rules.specs.Server as rules
 use Rattle.server.proofs.queries.alignment_of.Goals as goal
 
 pub returns : goal.returns
-returns c s m = ap (λ (x : rules.Slot). x.link.alignment) (c.slot_of-x.ensures s m)
+returns c s m = ap (λ (x : rules.Slot). x.link.alignment) (c.slot_of.ensures s m)

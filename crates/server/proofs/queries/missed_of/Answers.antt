@@ -3,4 +3,4 @@ use Rattle.rules.specs.Server as rules
 use Rattle.server.proofs.queries.missed_of.Goals as goal
 
 pub returns : goal.returns
-returns c s m = ap (λ (x : rules.Slot). x.missed) (c.slot_of-x.ensures s m)
+returns c s m = ap (λ (x : rules.Slot). x.missed) (c.slot_of.ensures s m)

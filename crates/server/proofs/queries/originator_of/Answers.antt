@@ -1,16 +1,14 @@
--- A row above the last or free has no octets; else they are those of the row.
-use Rattle.std.proofs.Common.{rules, ap, ◌∙◌}
+-- That of the row, where it is used.
+use Rattle.std.proofs.Common.{rules, ◌≡◌, is_some, sym, ap, ◌∙◌}
 use Rattle.rules.specs.Server.{Row}
 use Rattle.server.specs.Queries.{entry_shown}
-use Rattle.server.proofs.QueryLaws.{is_below, row_used}
+use Rattle.server.proofs.QueryLaws.{row_shown}
 use Rattle.server.proofs.queries.originator_of.Goals as goal
 
-pub originator_of-requires : goal.originator_of-requires
-originator_of-requires c =
-    (search rules, is_below c.args.memory.now c.args.row c.is_used.result c.is_used.ensures c.if-is_used.true)
-
-pub returns-then-is_used : goal.returns-then-is_used
-returns-then-is_used c =
+pub returns-in-Some : goal.returns-in-Some
+returns-in-Some c =
+    let a = c.args in
+    let i = c.in-Some.i in
+    let q : i.at ≡ a.row = search rules in
     c.originator_of.ensures
-    ∙ ap (λ (r : Row). (entry_shown r).originator)
-    (row_used c.args.memory.now c.args.row c.is_used.result c.is_used.ensures c.if-is_used.true)
+    ∙ ap (λ (r : Row). (entry_shown r).originator) (row_shown a.memory.now a.row i q (sym (ap is_some c.in-Some.is) ∙ c.used_row.ensures.used))

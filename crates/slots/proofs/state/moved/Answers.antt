@@ -6,5 +6,5 @@ pub returns-then-enters : goal.returns-then-enters
 returns-then-enters c = λ qs kept. rw (sym c.enters.ensures ∙ c.if-enters.true)
     (c.emptied.ensures qs kept ∙ ap emptied (c.with_link-y.ensures qs kept))
 
-pub returns : goal.returns
-returns c = λ qs kept. rw (sym c.enters.ensures ∙ c.if-enters.false) (c.with_link-y.ensures qs kept)
+pub returns-else-enters : goal.returns-else-enters
+returns-else-enters c = λ qs kept. rw (sym c.enters.ensures ∙ c.if-enters.false) (c.with_link-y.ensures qs kept)

@@ -1,8 +1,9 @@
--- The head of two parts, then its checksum.
+-- The head of three parts, then its checksum.
 use Rattle.std.proofs.Common.{arith}
-use Rattle.writer.proofs.Heads.{headed_by}
+use Rattle.writer.proofs.Heads.{headed}
 use Rattle.writer.proofs.put.put_head.Goals as goal
 
 pub returns : goal.returns
 returns c =
-    headed_by c.args.start.now c.args.common.now c.args.n (omega arith) c.put-at.ensures c.put.ensures c.seal.ensures
+    let a = c.args in
+    headed a.k a.before.now a.common.now a.n (omega arith) c.fixed_part.ensures c.put-fixed.ensures c.put-at.ensures c.put.ensures c.seal.ensures

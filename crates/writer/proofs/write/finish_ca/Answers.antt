@@ -1,33 +1,16 @@
--- The start and the common part are a head of 32 octets, so what stands behind it is a packet; it is the message's.
-use Rattle.std.proofs.Common.{rules, arith, ◌≡◌, ℕ, [], ◌++◌, length, ap, subst}
-use Rattle.protocol.specs.declared.Kind.TheVariants.{Ca}
+-- The CA number and the common part are a head of 32 octets with the fixed part, so what stands behind it is a packet; it is the message's.
+use Rattle.std.proofs.Common.{rules, ◌≡◌, ◌<◌, [], length, refl}
 use Rattle.protocol.specs.Fields.{put4}
-use Rattle.writer.specs.Write.{common_part, Behind}
-use Rattle.writer.proofs.Heads.{behind, common_whole, finishes_ca}
+use Rattle.protocol.specs.Layouts.{flags_field}
+use Rattle.writer.proofs.Heads.{number_octets, behind, finishes_ca}
 use Rattle.writer.proofs.write.finish_ca.Goals as goal
 
-pub returns-clause-finishes_with : goal.returns-clause-finishes_with
-returns-clause-finishes_with c =
+pub returns : goal.returns
+returns c =
     let a = c.args in
-    let f = c.ca_start-start in
-    let x = c.flags_of in
-    let m = c.common_part-common in
     let widths : (length a.c.sender ≡ 4) × (length a.c.receiver ≡ 4) = search rules in
-    let start : length f.result ≡ 12 = ap length f.ensures in
-    let common : length m.result ≡ 20 = search rules in
-    finishes_ca a.c widths a.number a.flags x.ensures
-    (behind Ca (put4 a.number.0 [] ++ common_part a.c x.result 4 a.count) f.result m.result 32 a.n
-    (λ i. f.ensures i ++ common_whole a.c widths x.result a.count m.ensures i) (omega (arith, start, common)) c.put_head.ensures)
-
-pub returns-clause-octets : goal.returns-clause-octets
-returns-clause-octets c =
-    let a = c.args in
-    let f = c.ca_start-start in
-    let x = c.flags_of in
-    let m = c.common_part-common in
-    let widths : (length a.c.sender ≡ 4) × (length a.c.receiver ≡ 4) = search rules in
-    let start : length f.result ≡ 12 = ap length f.ensures in
-    let common : length m.result ≡ 20 = search rules in
-    subst (λ (g : ℕ). Behind Ca (put4 a.number.0 [] ++ common_part a.c g 4 a.count) 32 a.n a.out.now c.put_head.new.out) x.ensures
-    (behind Ca (put4 a.number.0 [] ++ common_part a.c x.result 4 a.count) f.result m.result 32 a.n
-    (λ i. f.ensures i ++ common_whole a.c widths x.result a.count m.ensures i) (omega (arith, start, common)) c.put_head.ensures)
+    let fits : a.number.0 < 4294967296 = search rules in
+    let number = number_octets fits c.to_be_bytes.ensures in
+    let octets =
+    behind a.c widths (put4 a.number.0 []) (flags_field a.flags) a.count 32 refl number c.flags_of.ensures c.common_part-common.ensures refl c.put_head.ensures in
+    record { finishes_with = finishes_ca a.c widths a.number a.flags octets; octets = octets }

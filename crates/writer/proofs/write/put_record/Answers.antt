@@ -8,7 +8,7 @@ returns-then-payload-eq0 c =
     let a = c.args in
     let h = c.requires in
     named_put a.hops a.null a.number a.name.now a.payload.now h.0.0 h.0.1 a.at a.out.now h.1.1 refl refl
-    c.bit.ensures.0 c.bits_of.ensures c.record_head-h.ensures c.put-a.ensures c.put-b.ensures
+    c.bits_of.ensures c.record_head-h.ensures c.put-a.ensures c.put-b.ensures
     (put_empty a.payload.now _ _ c.if-payload-eq0.true)
 
 pub returns : goal.returns
@@ -16,4 +16,4 @@ returns c =
     let a = c.args in
     let h = c.requires in
     named_put a.hops a.null a.number a.name.now a.payload.now h.0.0 h.0.1 a.at a.out.now h.1.1 refl refl
-    c.bit.ensures.0 c.bits_of.ensures c.record_head-h.ensures c.put-a.ensures c.put-b.ensures c.put.ensures
+    c.bits_of.ensures c.record_head-h.ensures c.put-a.ensures c.put-b.ensures c.put.ensures

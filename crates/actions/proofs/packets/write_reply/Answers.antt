@@ -1,6 +1,0 @@
-use Rattle.protocol.specs.Messages.{csu_reply}
-use Rattle.actions.proofs.FinishLaws.{none_written}
-use Rattle.actions.proofs.packets.write_reply.Goals as goal
-
-pub returns-then-count-eq0 : goal.returns-then-count-eq0
-returns-then-count-eq0 c = none_written csu_reply c.args.c c.args.count c.args.n c.args.out.now c.if-count-eq0.true

@@ -1,0 +1,15 @@
+use Rattle.std.proofs.Common.{[], false}
+use Rattle.records.proofs.HeldLaws.{row_summary, as_summary}
+use Rattle.records.specs.Places.{entry_record}
+use Rattle.memory.specs.Memory.{entry_named}
+use Rattle.records.proofs.held.put_as.Goals as goal
+
+pub returns : goal.returns
+returns c =
+    let a = c.args in
+    let q = c.put_summary in
+    let x = c.entry_of in
+    let z = c.number_of-number in
+    as_summary a.whole a.memory.now a.i.at a.at a.out.now q.new.out q.result
+    (entry_record 1 false z.result (entry_named x.result.now) []) c.if-whole.false
+    (row_summary a.memory.now a.i.at (search) a.i.below x.result.now x.ensures.0 z.result z.ensures) q.ensures

@@ -1,9 +1,0 @@
--- Each round takes what was read behind what was left; what is left is shorter than a record.
-use Rattle.std.proofs.Common.{◌≡◌, length}
-use Rattle.replay.proofs.rest.Given as goal
-
-abbrev pub invariant-loop-turns : goal.invariant-loop-turns
-invariant-loop-turns l = length l.input ≡ length l.initial.input
-
-abbrev pub decreases-loop-turns : goal.decreases-loop-turns
-decreases-loop-turns l = l.turns

@@ -1,5 +1,0 @@
-use Rattle.table.proofs.TableLaws.{ca_put}
-use Rattle.table.proofs.fields.put_ca_sent.Goals as goal
-
-pub returns : goal.returns
-returns c = ca_put c.args.k c.of_last.result c.args.t.now _ c.args.time c.put_word.ensures c.of_last.ensures

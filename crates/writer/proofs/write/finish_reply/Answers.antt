@@ -1,9 +1,0 @@
--- What stands behind the head is a packet; it is the message's.
-use Rattle.std.proofs.Common.{rules, ◌≡◌, length}
-use Rattle.writer.proofs.Heads.{finishes_reply}
-use Rattle.writer.proofs.write.finish_reply.Goals as goal
-
-pub returns-clause-finishes_with : goal.returns-clause-finishes_with
-returns-clause-finishes_with c =
-    let widths : (length c.args.c.sender ≡ 4) × (length c.args.c.receiver ≡ 4) = search rules in
-    finishes_reply c.args.c widths c.finish_csu.ensures
