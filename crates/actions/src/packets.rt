@@ -14,6 +14,7 @@ ghost use Rattle.actions.specs.Steps.{common_of, our_message, WritesSome};
 use memory::Storage;
 use memory::next::Picks;
 use protocol::{CaFlags, CaNumber, SlotIndex};
+use records::held::Shape;
 use records::{asked, held};
 use slots::state::Settings;
 use writer::write;
@@ -46,7 +47,7 @@ pub fn write_ca(
         out.old out.new result }
     ensures most { result ≤ 284 }
 {
-    let x = held::picked(memory, picks, false, out, 32);
+    let x = held::picked(memory, picks, Shape::Summary, out, 32);
     write::finish_ca(out, c, number, flags, x.count as u16, x.next);
     x.next
 }
@@ -80,7 +81,7 @@ pub fn write_update(memory: &Storage, c: Common, picks: Picks, out: &mut [u8]) -
     ensures { Wrote (packet_of (our_message c (csu_request (rows_of held_record (rows_in memory.now) (picks_of picks))))) out.old
         out.new result }
 {
-    let x = held::picked(memory, picks, true, out, 28);
+    let x = held::picked(memory, picks, Shape::Whole, out, 28);
     write::finish_csu(out, Csu::Request, c, x.count as u16, x.next);
     x.next
 }

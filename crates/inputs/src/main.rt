@@ -7,6 +7,7 @@ use table::Slots;
 
 const SPACE: usize = 65700;
 
+// Alike in replay: `lines`, which `host` links, only makes text and writes nothing.
 fn print(text: &[u8; 20480], n: usize) {
     io::write_all(1, octets::first(text, n));
 }

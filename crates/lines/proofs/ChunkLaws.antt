@@ -1,10 +1,11 @@
 -- A chunk of records and the text of their lines.
 -- Assumes nothing.
 use Rattle.std.proofs.Common.{◌≡◌, ℕ, zero, suc, ◌+◌, ◌*◌, ◌/◌, ◌%◌, ◌≤◌, Bool, true, false, not, ◌&&◌, ltb, leb, List, [], ◌∷◌, ◌++◌, length, take, drop}
-use Rattle.std.proofs.Common.{sym, refl, ap, ◌∙◌, subst, append_assoc, append-nil, arith, length-append, drop_of_length-le, drop-cons, drop-drop}
+use Rattle.std.proofs.Common.{sym, refl, ap, ◌∙◌, subst, append_assoc, append-nil, arith, length-append, drop_of_length-le, drop-cons, drop-drop, take-append-drop, length-take-le}
+use Rattle.std.proofs.lemmas.List.{nil_from_length}
 use Rattle.std.proofs.Common.{ltb-false, ltb-true, leb-false, leb-true}
 use Rattle.laws.specs.Choice.{pick}
-use Rattle.laws.specs.Lists.{is_empty, part}
+use Rattle.laws.specs.Lists.{is_empty}
 use Rattle.laws.specs.Puts.{Put}
 use Rattle.laws.proofs.Puts.{put_none, then_put}
 use Rattle.rules.specs.Server as rules
@@ -20,7 +21,7 @@ use Rattle.server.specs.Hosts.{Hosted}
 use Rattle.lines.specs.declared.chunk.Stepped.{Stepped}
 use Rattle.lines.specs.Text.{NumbersText, PutsNumbers, numbers_most, cut_text, LineText, LinesText, Prints}
 use Rattle.lines.specs.Lines.{Takes, Begins, events_from}
-use Rattle.lines.proofs.RunLaws.{run_kind, Went, went_run, went_host}
+use Rattle.lines.proofs.RunLaws.{run_kind, Went, went_run, went_host, first_of, behind_first}
 use Rattle.lines.specs.Chunks.{records_in, lines_in, ends_with, first_line, Lined, Opens, Chunks}
 use Rattle.slots.specs.declared.state.Slot.{Slot}
 
@@ -59,39 +60,35 @@ lined {kind} {number} {s} {slots} {slots'} {before} {after} {out} {out'} {a} {at
   most = m;
 }
 
--- ---- the loop: what is said so far, and what it makes of the text of the rest
-pub record Said (ends : Bool) (input : List ℕ) (n number : ℕ) (x₀ : rules.Server) (text₀ : List ℕ) (x : rules.Server) (at left k end : ℕ) (text : List ℕ) :
-    Type 0 where
-  pub done : ℕ
+-- ---- the loop: what is said of the first `done` records, and what it makes of the text of the rest
+pub record Said (ends : Bool) (input : List ℕ) (n number : ℕ) (x₀ : rules.Server) (text₀ : List ℕ) (x : rules.Server) (rest : List ℕ) (left done end : ℕ)
+    (text : List ℕ) : Type 0 where
   pub sum : done + left ≡ n
-  pub place : at ≡ 292 * done
-  pub count : (i : ℕ) → number ≡ i % numbers_most → k ≡ (i + done) % numbers_most
   pub octets : List ℕ
   pub put : Put octets 0 text₀ text end
   pub fits : length octets ≤ 84 * done
-  pub tells : (i : ℕ) → number ≡ i % numbers_most → (u : List ℕ) → LinesText (lines_in ends left (i + done) x (drop at input)) u
+  pub tells : (i : ℕ) → number ≡ i % numbers_most → (u : List ℕ) → LinesText (lines_in ends left (i + done) x rest) u
       → LinesText (lines_in ends n i x₀ input) (octets ++ u)
 
-pub said_none : (ends : Bool) (input : List ℕ) (n left number : ℕ) (x : rules.Server) (text : List ℕ) → left ≡ n
-    → Said ends input n number x text x 0 left number 0 text
-said_none ends input n left number x text same =
-    subst (λ (j : ℕ). Said ends input n number x text x 0 j number 0 text) (sym same) (record {
-      done = 0;
-      sum = omega arith;
-      place = omega arith;
-      count = λ i e. let z : i + 0 ≡ i = omega arith in e ∙ ap (λ (j : ℕ). j % numbers_most) (sym z);
-      octets = [];
-      put = put_none text 0;
-      fits = omega arith;
-      tells = λ i e u h. let z : i + 0 ≡ i = omega arith in subst (λ (j : ℕ). LinesText (lines_in ends n j x input) u) z h;
-    })
+said_start : (ends : Bool) (input : List ℕ) (n number : ℕ) (x : rules.Server) (text : List ℕ) → Said ends input n number x text x input n 0 0 text
+said_start ends input n number x text = record {
+  sum = omega arith;
+  octets = [];
+  put = put_none text 0;
+  fits = omega arith;
+  tells = λ i e u h. let z : i + 0 ≡ i = omega arith in subst (λ (j : ℕ). LinesText (lines_in ends n j x input) u) z h;
+}
 
-module _ {ends : Bool} {input : List ℕ} {n number : ℕ} {x₀ : rules.Server} {text₀ : List ℕ} {s : Server} {slots : List Slot} {before : List ℕ} {at left k end : ℕ}
+pub said_none : (ends : Bool) (input : List ℕ) (n number : ℕ) (x : rules.Server) (text rest : List ℕ) (left done : ℕ) → rest ≡ input → left ≡ n → done ≡ 0
+    → Said ends input n number x text x rest left done 0 text
+said_none ends input n number x text rest left done e l z = rw (e, l, z) (said_start ends input n number x text)
+
+module _ {ends : Bool} {input : List ℕ} {n number : ℕ} {x₀ : rules.Server} {text₀ : List ℕ} {s : Server} {slots : List Slot} {before rest : List ℕ} {left done end : ℕ}
     {text : List ℕ}
-    (w : Said ends input n number x₀ text₀ (server_of s slots before) at left k end text) where
-  -- one record more: `first` is the record at `at`
-  module _ (first : List ℕ) (less : ℕ) {slots' : List Slot} {after text' : List ℕ} {r : Stepped} (room : 84 * n ≤ length text₀) (f : first ≡ part input at 292)
-      (e : left ≡ suc less)
+    (w : Said ends input n number x₀ text₀ (server_of s slots before) rest left done end text) where
+  -- one record more: `first` is the first of the rest
+  module _ (first behind : List ℕ) (less : ℕ) {k : ℕ} {slots' : List Slot} {after text' : List ℕ} {r : Stepped} (room : 84 * n ≤ length text₀)
+      (f : rest ≡ first ++ behind) (whole : length first ≡ 292) (e : left ≡ suc less)
       (l : Lined (record_kind first) k s slots slots' before after end text text' r) where
     abbrev x : rules.Server
     x = server_of s slots before
@@ -99,38 +96,38 @@ module _ {ends : Bool} {input : List ℕ} {n number : ℕ} {x₀ : rules.Server}
     abbrev y : rules.Server
     y = server_of r.server slots' after
 
-    split : (i : ℕ) → lines_in ends left i x (drop at input) ≡ line_of (record_kind first) i x ∷ lines_in ends less (suc i) y (drop (at + 292) input)
+    split : (i : ℕ) → lines_in ends left i x rest ≡ line_of (record_kind first) i x ∷ lines_in ends less (suc i) y behind
     unfolding lines_in
     split i =
-        ap (λ (m : ℕ). lines_in ends m i x (drop at input)) e
-        ∙ ap (λ (v : List ℕ). line_of (record_kind (part input at 292)) i x ∷ lines_in ends less (suc i) (server_after (record_kind (part input at 292)) x) v)
-        (drop-drop 292 at input)
-        ∙ ap (λ (v : List ℕ). line_of (record_kind v) i x ∷ lines_in ends less (suc i) (server_after (record_kind v) x) (drop (at + 292) input)) (sym f)
-        ∙ ap (λ (z : rules.Server). line_of (record_kind first) i x ∷ lines_in ends less (suc i) z (drop (at + 292) input)) (sym l.server)
+        ap (λ (m : ℕ). lines_in ends m i x rest) e
+        ∙ ap (λ (v : List ℕ). line_of (record_kind (take replay_record v)) i x
+        ∷ lines_in ends less (suc i) (server_after (record_kind (take replay_record v)) x) (drop replay_record v)) f
+        ∙ ap (λ (v : List ℕ). line_of (record_kind v) i x
+        ∷ lines_in ends less (suc i) (server_after (record_kind v) x) (drop replay_record (first ++ behind))) (first_of first behind whole)
+        ∙ ap (λ (v : List ℕ). line_of (record_kind first) i x ∷ lines_in ends less (suc i) (server_after (record_kind first) x) v)
+        (behind_first first behind whole)
+        ∙ ap (λ (z : rules.Server). line_of (record_kind first) i x ∷ lines_in ends less (suc i) z behind) (sym l.server)
 
-    pub said_more : {k' next : ℕ} → next ≡ at + 292 → k' ≡ (k + 1) % numbers_most → Said ends input n number x₀ text₀ y next less k' r.text text'
-    said_more {k'} {next} to count =
+    pub said_more : {next : ℕ} → k ≡ (number + done) % numbers_most → next ≡ done + 1 → Said ends input n number x₀ text₀ y behind less next r.text text'
+    said_more {next} count to =
         let p = l.prints in
         let a : end ≡ 0 + length w.octets = w.put.next in
         let b : r.text ≡ end + length p.octets = p.put.next in
         let m = l.most in
         let c = w.fits in
         let d = w.sum in
-        subst (λ (j : ℕ). Said ends input n number x₀ text₀ y j less k' r.text text') (sym to) (record {
-          done = w.done + 1;
+        subst (λ (j : ℕ). Said ends input n number x₀ text₀ y behind less j r.text text') (sym to) (record {
           sum = omega arith;
-          place = let q = w.place in omega arith;
-          count = λ i q. let g = w.count i q in omega (arith, count);
           octets = w.octets ++ p.octets;
           put = then_put text₀ 0 w.octets p.octets (omega arith) w.put p.put;
           fits = simp length-append (omega arith);
           tells = λ i q u h.
-              let g : i + (w.done + 1) ≡ suc (i + w.done) = omega arith in
+              let g : i + (done + 1) ≡ suc (i + done) = omega arith in
               rw (append_assoc w.octets p.octets u)
               (w.tells i q (p.octets ++ u)
-              (subst (λ (ls : List Line). LinesText ls (p.octets ++ u)) (sym (split (i + w.done)))
-              (lines_append (line_of (record_kind first) (i + w.done) x ∷ []) (lines_in ends less (suc (i + w.done)) y (drop (at + 292) input)) p.octets u
-              (p.means (i + w.done) (w.count i q)) (subst (λ (j : ℕ). LinesText (lines_in ends less j y (drop (at + 292) input)) u) g h))));
+              (subst (λ (ls : List Line). LinesText ls (p.octets ++ u)) (sym (split (i + done)))
+              (lines_append (line_of (record_kind first) (i + done) x ∷ []) (lines_in ends less (suc (i + done)) y behind) p.octets u
+              (p.means (i + done) (omega (arith, count, q))) (subst (λ (j : ℕ). LinesText (lines_in ends less j y behind) u) g h))));
         })
 
 -- none is left: `cut`, if something is left of an input that ends here
@@ -138,21 +135,22 @@ cut_text_lem : (c : Bool) → LinesText (pick c (cut ∷ []) []) (pick c cut_tex
 cut_text_lem true = (cut_text, [], refl, refl, refl)
 cut_text_lem false = refl
 
-rest_text : (ends b : Bool) (input : List ℕ) (at left i : ℕ) (x : rules.Server) → left ≡ 0 → b ≡ (ends && ltb at (length input))
-    → LinesText (lines_in ends left i x (drop at input)) (pick b cut_text [])
+rest_text : (ends b : Bool) (input rest : List ℕ) (at left i : ℕ) (x : rules.Server) → left ≡ 0 → rest ≡ drop at input → b ≡ (ends && ltb at (length input))
+    → LinesText (lines_in ends left i x rest) (pick b cut_text [])
 unfolding lines_in
-rest_text ends b input at left i x z h =
-    rw (z, h ∙ ap (λ (c : Bool). ends && c) (some_left at input)) (cut_text_lem (ends && not (is_empty (drop at input))))
+rest_text ends b input rest at left i x z e h =
+    rw (z, e, h ∙ ap (λ (c : Bool). ends && c) (some_left at input)) (cut_text_lem (ends && not (is_empty (drop at input))))
 
-pub said_all : {ends b : Bool} {input : List ℕ} {n number : ℕ} {x₀ x : rules.Server} {at left k end : ℕ} {text₀ text text' : List ℕ} {r : ℕ}
-    → Said ends input n number x₀ text₀ x at left k end text → left ≡ 0 → b ≡ (ends && ltb at (length input)) → 84 * n ≤ length text₀
+pub said_all : (at : ℕ) {ends b : Bool} {input rest : List ℕ} {n number : ℕ} {x₀ x : rules.Server} {left done end : ℕ} {text₀ text text' : List ℕ} {r : ℕ}
+    → Said ends input n number x₀ text₀ x rest left done end text → left ≡ 0 → rest ≡ drop at input → b ≡ (ends && ltb at (length input))
+    → 84 * n ≤ length text₀
     → Put (pick b cut_text []) end text text' r → Prints number (λ i. lines_in ends n i x₀ input) 0 text₀ text' r
-said_all {ends} {b} {input} {n} {number} {x₀} {x} {at} {left} {k} {end} {text₀} {text} {text'} {r} w z h room p =
+said_all at {ends} {b} {input} {rest} {n} {number} {x₀} {x} {left} {done} {end} {text₀} {text} {text'} {r} w z e h room p =
     let c = w.fits in
     let d = w.sum in
     record {
       octets = w.octets ++ pick b cut_text [];
-      means = λ i q. w.tells i q (pick b cut_text []) (rest_text ends b input at left (i + w.done) x z h);
+      means = λ i q. w.tells i q (pick b cut_text []) (rest_text ends b input rest at left (i + done) x z e h);
       put = then_put text₀ 0 w.octets (pick b cut_text []) (omega arith) w.put p;
     }
 
@@ -207,19 +205,29 @@ records_few len n e = by (leb (len / 292) 224) refl e where
   by true h q = (omega (arith, leb-true (len / 292) 224 h), omega arith)
   by false h q = (omega arith, omega (arith, leb-false (len / 292) 224 h))
 
-pub chunks : {input : List ℕ} {last b : Bool} {number n at taken left k end r : ℕ} {s x : Server} {slots slots' : List Slot} {before after text mid text' : List ℕ}
-    → n ≡ records_in input → Said (ends_with last input) input n number (server_of s slots before) text (server_of x slots' after) at left k end mid
-    → Went input 0 n s slots before at left x slots' after → left ≡ 0 → 84 * n ≤ length text
-    → taken ≡ at → b ≡ (ends_with last input && ltb taken (length input)) → Put (pick b cut_text []) end mid text' r
-    → Chunks input last number s slots slots' before after text text' (record { server = x; number = k; taken = taken; text = r })
-chunks {input} {last} {b} {number} {n} {at} {taken} {left} {k} {end} {r} {s} {x} {slots} {slots'} {before} {after} {text} {mid} {text'} e w g z room q h p =
-    let d = w.sum in
-    let all : w.done ≡ records_in input = omega (arith, e) in
+-- the part that is cut into records, and what is behind it
+pub part_whole : (input cut : List ℕ) (n : ℕ) → cut ≡ take (n * 292) input → 292 * n ≤ length input
+    → (cut ++ drop (n * 292) input ≡ input) × (length cut ≡ n * 292)
+part_whole input cut n e h = (
+  ap (λ (v : List ℕ). v ++ drop (n * 292) input) e ∙ take-append-drop (n * 292) input,
+  ap length e ∙ length-take-le (n * 292) input (omega (arith, h)),
+)
+
+pub chunks : (part : List ℕ) {input : List ℕ} {last b : Bool} {number n m done end r : ℕ} {s x : Server} {slots slots' : List Slot} {before after text mid text' : List ℕ}
+    → n ≡ records_in input
+    → Said (ends_with last input) input n number (server_of s slots before) text (server_of x slots' after) (part ++ drop (n * 292) input) (length part / 292)
+    done end mid
+    → Went input n s slots before (part ++ drop (n * 292) input) (length part / 292) x slots' after → length part ≡ 0 → 84 * n ≤ length text
+    → m ≡ (number + n) % numbers_most → b ≡ (ends_with last input && ltb (n * 292) (length input)) → Put (pick b cut_text []) end mid text' r
+    → Chunks input last number s slots slots' before after text text' (record { server = x; number = m; taken = n * 292; text = r })
+chunks part {input} {last} {b} {number} {n} {m} {done} {end} {r} {s} {x} {slots} {slots'} {before} {after} {text} {mid} {text'} e w g z room q h p =
+    let none : length part / 292 ≡ 0 = omega (arith, z) in
+    let rest : part ++ drop (n * 292) input ≡ drop (n * 292) input = ap (λ (v : List ℕ). v ++ drop (n * 292) input) (nil_from_length part z) in
     record {
-      server = went_run g z ∙ ap (λ (m : ℕ). run (server_of s slots before) (events_from m input)) e;
-      host = λ c is f. subst (λ (m : ℕ). Hosted c x slots' after (is ++ items (server_of s slots before) (events_from m input))) e (went_host g z c is f);
-      next = λ i q. w.count i q ∙ ap (λ (m : ℕ). (i + m) % numbers_most) all;
-      rest = q ∙ w.place ∙ ap (λ (m : ℕ). 292 * m) all;
-      prints = subst (λ (m : ℕ). Prints number (λ i. lines_in (ends_with last input) m i (server_of s slots before) input) 0 text text' r) e
-          (said_all w z (h ∙ ap (λ (j : ℕ). ends_with last input && ltb j (length input)) q) room p);
+      server = went_run g none ∙ ap (λ (j : ℕ). run (server_of s slots before) (events_from j input)) e;
+      host = λ c is f. subst (λ (j : ℕ). Hosted c x slots' after (is ++ items (server_of s slots before) (events_from j input))) e (went_host g none c is f);
+      next = λ i k. subst (λ (j : ℕ). m ≡ (i + j) % numbers_most) e (omega (arith, q, k));
+      rest = subst (λ (j : ℕ). n * 292 ≡ 292 * j) e (omega arith);
+      prints = subst (λ (j : ℕ). Prints number (λ i. lines_in (ends_with last input) j i (server_of s slots before) input) 0 text text' r) e
+          (said_all (n * 292) w none rest h room p);
     }

@@ -1,10 +1,10 @@
 -- A whole slice of records.
 -- Assumes nothing.
-use Rattle.std.proofs.Common.{◌≡◌, ℕ, suc, ◌+◌, ◌-◌, ◌/◌, ◌≤◌, Bool, true, false, ◌&&◌, Result, Ok, Err, is_ok, eqb, leb, List, [], ◌++◌, length, drop, sym, refl, ap, ◌∙◌, subst}
-use Rattle.std.proofs.Common.{append_assoc, append-nil, arith, length-drop, drop-drop, eqb-true, leb-true}
+use Rattle.std.proofs.Common.{◌≡◌, ℕ, suc, ◌+◌, ◌/◌, ◌%◌, ◌≤◌, Bool, true, false, ◌&&◌, Result, Ok, Err, is_ok, eqb, leb, List, [], ◌++◌, length, take, drop, sym, refl, ap, ◌∙◌, subst}
+use Rattle.std.proofs.Common.{append_assoc, append-nil, arith, length-append, eqb-true}
+use Rattle.std.proofs.Math.Seq.{take-append_seam, drop-append_seam}
 use mathlib.Core.Bool.{false≢true}
 use Rattle.laws.specs.Choice.{pick}
-use Rattle.laws.specs.Lists.{part}
 use Rattle.laws.proofs.Bools.{and_true}
 use Rattle.rules.specs.Server as rules
 use Rattle.rules.specs.Server.{settings_code, fresh}
@@ -34,64 +34,84 @@ items_kind : (k : RecordKind) (s : rules.Server) (es : List Event) → items s (
 items_kind (an_event e) s es = refl
 items_kind other s es = refl
 
--- from a server, its slots and its memory, and n records from a place of the input on, to others with `left` records from `at` on
-pub record Went (input : List ℕ) (from n : ℕ) (s₀ : Server) (slots₀ : List Slot) (memory₀ : List ℕ) (at left : ℕ) (s : Server) (slots : List Slot) (memory : List ℕ) : Type 0 where
-  pub ran : run (server_of s₀ slots₀ memory₀) (events_from n (drop from input)) ≡ run (server_of s slots memory) (events_from left (drop at input))
+-- from a server, its slots and its memory, and the first n records of `whole`, to others with the first `left` records of `rest`
+pub record Went (whole : List ℕ) (n : ℕ) (s₀ : Server) (slots₀ : List Slot) (memory₀ : List ℕ) (rest : List ℕ) (left : ℕ) (s : Server) (slots : List Slot) (memory : List ℕ) : Type 0 where
+  pub ran : run (server_of s₀ slots₀ memory₀) (events_from n whole) ≡ run (server_of s slots memory) (events_from left rest)
   pub did : List Item
-  pub saw : items (server_of s₀ slots₀ memory₀) (events_from n (drop from input)) ≡ did ++ items (server_of s slots memory) (events_from left (drop at input))
+  pub saw : items (server_of s₀ slots₀ memory₀) (events_from n whole) ≡ did ++ items (server_of s slots memory) (events_from left rest)
   pub host : (c : Settings) (is : List Item) → Hosted c s₀ slots₀ memory₀ is → Hosted c s slots memory (is ++ did)
 
-pub went_none : (input : List ℕ) (from n left : ℕ) (s : Server) (slots : List Slot) (memory : List ℕ) → left ≡ n → Went input from n s slots memory from left s slots memory
-went_none input from n left s slots memory e =
-    subst (λ (k : ℕ). Went input from n s slots memory from k s slots memory) (sym e)
-    (record { ran = refl; did = []; saw = refl; host = λ c is h. rw (append-nil is) h })
+pub went_none : (whole : List ℕ) (n : ℕ) (rest : List ℕ) (left : ℕ) (s : Server) (slots : List Slot) (memory : List ℕ) → rest ≡ whole → left ≡ n
+    → Went whole n s slots memory rest left s slots memory
+went_none whole n rest left s slots memory e l =
+    rw (e, l) (record { ran = refl; did = []; saw = refl; host = λ c is h. rw (append-nil is) h })
 
--- one record more: `first` is the record at `at`
-module _ {input : List ℕ} {from n : ℕ} {s₀ : Server} {slots₀ : List Slot} {memory₀ : List ℕ} {at left : ℕ} {s : Server} {slots : List Slot} {memory : List ℕ}
-    (w : Went input from n s₀ slots₀ memory₀ at left s slots memory) where
-  pub went_more : (first : List ℕ) (next less : ℕ) (t : Server) (slots' : List Slot) (memory' : List ℕ) → first ≡ part input at 292 → next ≡ at + 292 → left ≡ suc less
+-- the first record of a list, and what is behind it
+pub first_of : (first behind : List ℕ) → length first ≡ 292 → take replay_record (first ++ behind) ≡ first
+first_of first behind e = ap (λ (k : ℕ). take k (first ++ behind)) (sym e) ∙ take-append_seam first behind
+
+pub behind_first : (first behind : List ℕ) → length first ≡ 292 → drop replay_record (first ++ behind) ≡ behind
+behind_first first behind e = ap (λ (k : ℕ). drop k (first ++ behind)) (sym e) ∙ drop-append_seam first behind
+
+-- one record more
+module _ {whole : List ℕ} {n : ℕ} {s₀ : Server} {slots₀ : List Slot} {memory₀ : List ℕ} {rest : List ℕ} {left : ℕ} {s : Server} {slots : List Slot} {memory : List ℕ}
+    (w : Went whole n s₀ slots₀ memory₀ rest left s slots memory) where
+  pub went_more : (first behind : List ℕ) (less : ℕ) (t : Server) (slots' : List Slot) (memory' : List ℕ) → rest ≡ first ++ behind → length first ≡ 292
+      → left ≡ suc less
       → server_of t slots' memory' ≡ server_after (record_kind first) (server_of s slots memory)
       → ((c : Settings) (is : List Item) → Hosted c s slots memory is → Hosted c t slots' memory' (is ++ items_of
       (record_kind first) (server_of s slots memory)))
-      → Went input from n s₀ slots₀ memory₀ next less t slots' memory'
+      → Went whole n s₀ slots₀ memory₀ behind less t slots' memory'
   unfolding events_from
-  went_more first next less t slots' memory' f q e after h =
+  went_more first behind less t slots' memory' f l e after h =
       let x : rules.Server = server_of s slots memory in
       let y : rules.Server = server_of t slots' memory' in
-      let rest : List Event = events_from less (drop (at + 292) input) in
-      let split : events_from left (drop at input) ≡ with_event (record_kind first) rest =
-      ap (λ (k : ℕ). events_from k (drop at input)) e
-      ∙ ap (λ (l : List ℕ). with_event (record_kind (part input at 292)) (events_from less l)) (drop-drop 292 at input)
-      ∙ ap (λ (l : List ℕ). with_event (record_kind l) rest) (sym f) in
-      subst (λ (k : ℕ). Went input from n s₀ slots₀ memory₀ k less t slots' memory') (sym q) (record {
-        ran = w.ran ∙ ap (run x) split ∙ run_kind (record_kind first) x rest ∙ ap (λ (z : rules.Server). run z rest) (sym after);
+      let es : List Event = events_from less behind in
+      let split : events_from left rest ≡ with_event (record_kind first) es =
+      ap (λ (k : ℕ). events_from k rest) e
+      ∙ ap (λ (v : List ℕ). with_event (record_kind (take replay_record v)) (events_from less (drop replay_record v))) f
+      ∙ ap (λ (v : List ℕ). with_event (record_kind v) (events_from less (drop replay_record (first ++ behind)))) (first_of first behind l)
+      ∙ ap (λ (v : List ℕ). with_event (record_kind first) (events_from less v)) (behind_first first behind l) in
+      record {
+        ran = w.ran ∙ ap (run x) split ∙ run_kind (record_kind first) x es ∙ ap (λ (z : rules.Server). run z es) (sym after);
         did = w.did ++ items_of (record_kind first) x;
-        saw = w.saw ∙ ap (λ (es : List Event). w.did ++ items x es) split
-            ∙ ap (λ (l : List Item). w.did ++ l) (items_kind (record_kind first) x rest
-            ∙ ap (λ (z : rules.Server). items_of (record_kind first) x ++ items z rest) (sym after))
-            ∙ sym (append_assoc w.did (items_of (record_kind first) x) (items y rest));
+        saw = w.saw ∙ ap (λ (v : List Event). w.did ++ items x v) split
+            ∙ ap (λ (v : List Item). w.did ++ v) (items_kind (record_kind first) x es
+            ∙ ap (λ (z : rules.Server). items_of (record_kind first) x ++ items z es) (sym after))
+            ∙ sym (append_assoc w.did (items_of (record_kind first) x) (items y es));
         host = λ c is g. rw (← (append_assoc is w.did (items_of (record_kind first) x))) (h c (is ++ w.did) (w.host c is g));
-      })
+      }
 
   -- none is left
   module _ (z : left ≡ 0) where
-    pub went_run : server_of s slots memory ≡ run (server_of s₀ slots₀ memory₀) (events_from n (drop from input))
+    pub went_run : server_of s slots memory ≡ run (server_of s₀ slots₀ memory₀) (events_from n whole)
     unfolding events_from
-    went_run = sym (w.ran ∙ ap (λ (k : ℕ). run (server_of s slots memory) (events_from k (drop at input))) z)
+    went_run = sym (w.ran ∙ ap (λ (k : ℕ). run (server_of s slots memory) (events_from k rest)) z)
 
-    went_did : w.did ≡ items (server_of s₀ slots₀ memory₀) (events_from n (drop from input))
+    went_did : w.did ≡ items (server_of s₀ slots₀ memory₀) (events_from n whole)
     unfolding events_from
-    went_did = sym (w.saw ∙ ap (λ (k : ℕ). w.did ++ items (server_of s slots memory) (events_from k (drop at input))) z ∙ append-nil w.did)
+    went_did = sym (w.saw ∙ ap (λ (k : ℕ). w.did ++ items (server_of s slots memory) (events_from k rest)) z ∙ append-nil w.did)
 
     pub went_host : (c : Settings) (is : List Item) → Hosted c s₀ slots₀ memory₀ is
-        → Hosted c s slots memory (is ++ items (server_of s₀ slots₀ memory₀) (events_from n (drop from input)))
+        → Hosted c s slots memory (is ++ items (server_of s₀ slots₀ memory₀) (events_from n whole))
     went_host c is h = subst (λ (l : List Item). Hosted c s slots memory (is ++ l)) went_did (w.host c is h)
 
-pub all_records : (input : List ℕ) → events_in input ≡ events_from (length input / 292 - 1) (drop 292 input)
+-- a chunk off the front is one record less
+pub record_less : (rest first behind : List ℕ) → rest ≡ first ++ behind → length first ≡ 292 → length rest / 292 ≡ suc (length behind / 292)
+record_less rest first behind e l =
+    let sum : length rest ≡ length first + length behind = ap length e ∙ length-append first behind in
+    omega (arith, sum, l)
+
+-- and whole records stay
+pub records_whole : (rest first behind : List ℕ) → rest ≡ first ++ behind → length first ≡ 292 → length rest % 292 ≡ 0 → length behind % 292 ≡ 0
+records_whole rest first behind e l h =
+    let sum : length rest ≡ length first + length behind = ap length e ∙ length-append first behind in
+    omega (arith, sum, l, h)
+
+pub ran_all : {input rest : List ℕ} {left : ℕ} {s x : Server} {slots slots' : List Slot} {before after : List ℕ}
+    → Went (drop 292 input) (length (drop 292 input) / 292) s slots before rest left x slots' after → left ≡ 0 → RunsFrom s slots slots' before after input x
 unfolding events_in
-all_records input =
-    let n : (length input - 292) / 292 ≡ length input / 292 - 1 = omega arith in
-    ap (λ (k : ℕ). events_from (k / 292) (drop 292 input)) (length-drop 292 input) ∙ ap (λ (k : ℕ). events_from k (drop 292 input)) n
+ran_all w z = record { server = went_run w z; host = went_host w z }
 
 -- ---- the whole
 -- an outcome is Ok where its code is 0
@@ -141,12 +161,6 @@ module _ {input : List ℕ} {slots slots₁ : List Slot} {before mid : List ℕ}
     size = b.size;
     same = b.same;
   }
-
-  -- there is a whole record
-  pub whole : starts_good input ≡ true → 292 ≤ length input
-  whole h =
-      leb-true replay_record (length input)
-      (and_true (leb replay_record (length input)) (eqb (kind_at input) 0 && eqb (settings_code (settings_in input)) 0) h).0
 
   -- the records behind them run
   pub runs : {slots₂ : List Slot} {after : List ℕ} {s : Server} {r : Answer} → starts_good input ≡ true

@@ -56,36 +56,17 @@ fn put_answer(text: &mut [u8], at: usize, number: u64, a: Answer, memory: &Stora
     )
 }
 
-// `cut`, if it is wanted: a function, since the law of what was put is about one place.
-fn put_cut(text: &mut [u8], at: usize, wanted: bool) -> usize
-    requires { at + 4 ≤ length text.old }
-    ensures { Put (pick wanted cut_text []) at text.old text.new result }
-{
-    if wanted {
-        return octets::put(text, at, b"cut\n");
-    }
-    at
-}
-
-fn open_in(slots: &mut Slots, memory: &mut Storage, input: &[u8], text: &mut [u8]) -> Opened
-    requires { length text.old ≡ 20480 }
+// The first record and its line; `cut` where it is not accepted settings.
+pub fn open(slots: &mut Slots, memory: &mut Storage, input: &[u8], text: &mut [u8; 20480]) -> Opened
     ensures { Opens input.now slots.old slots.new memory.old memory.new text.old
         text.new result }
 {
     let answer = take::begin(slots, memory, input);
     let end = match answer.outcome {
         Ok(_) => text::put_line(text, 0, 0, 0, 0, 0),
-        Err(_) => put_cut(text, 0, true),
+        Err(_) => octets::put(text, 0, b"cut\n"),
     };
     Opened { answer, text: end }
-}
-
-// The first record and its line; `cut` where it is not accepted settings.
-pub fn open(slots: &mut Slots, memory: &mut Storage, input: &[u8], text: &mut [u8; 20480]) -> Opened
-    ensures { Opens input.now slots.old slots.new memory.old memory.new text.old
-        text.new result }
-{
-    open_in(slots, memory, input, text)
 }
 
 // One record and its line.
@@ -125,41 +106,6 @@ fn ends_short(last: bool, len: usize, at: usize) -> bool
     last && len / 292 <= 224 && at < len
 }
 
-fn replay_in(
-    s: Server,
-    slots: &mut Slots,
-    memory: &mut Storage,
-    input: &[u8],
-    last: bool,
-    number: u64,
-    text: &mut [u8],
-) -> Chunk
-    requires { length text.old ≡ 20480 }
-    ensures { Chunks input.now last number s slots.old slots.new memory.old memory.new
-        text.old text.new result }
-{
-    let mut out = [0u8; 284];
-    let mut x = s;
-    let mut end: usize = 0;
-    let mut k = number;
-    let n = records_in(input.len());
-    for i in 0..n {
-        let r = octets::part_of(input, i * 292, 292);
-        let a = one(x, slots, memory, r, &mut out, k, text, end);
-        x = a.server;
-        end = a.text;
-        k = k.wrapping_add(1);
-    }
-    let taken = n * 292;
-    let end = put_cut(text, end, ends_short(last, input.len(), taken));
-    Chunk {
-        server: x,
-        number: k,
-        taken,
-        text: end,
-    }
-}
-
 // The whole records of a chunk behind the first record, at most 224 of them, and their lines. `last`: the input ends with it.
 pub fn replay(
     s: Server,
@@ -173,5 +119,32 @@ pub fn replay(
     ensures { Chunks input.now last number s slots.old slots.new memory.old memory.new
         text.old text.new result }
 {
-    replay_in(s, slots, memory, input, last, number, text)
+    let mut out = [0u8; 284];
+    let mut x = s;
+    let mut end: usize = 0;
+    let n = records_in(input.len());
+    let taken = n * 292;
+    for (i, r) in input[..taken].chunks_exact(292).enumerate() {
+        let a = one(
+            x,
+            slots,
+            memory,
+            r,
+            &mut out,
+            number.wrapping_add(i as u64),
+            text,
+            end,
+        );
+        x = a.server;
+        end = a.text;
+    }
+    if ends_short(last, input.len(), taken) {
+        end = octets::put(text, end, b"cut\n");
+    }
+    Chunk {
+        server: x,
+        number: number.wrapping_add(n as u64),
+        taken,
+        text: end,
+    }
 }

@@ -1,5 +1,4 @@
 // A whole slice of records, from the settings to the last.
-ghost use Rattle.std.specs.Prelude.{◌≤◌, length};
 ghost use Rattle.lines.specs.Lines.{RunsFrom, Runs};
 
 use crate::take;
@@ -11,20 +10,12 @@ use table::Slots;
 
 // The records behind the first, each taken by the server that the last one left.
 fn run_from(s: Server, slots: &mut Slots, memory: &mut Storage, input: &[u8]) -> Server
-    requires { 292 ≤ length input.now }
     ensures { RunsFrom s slots.old slots.new memory.old memory.new input.now result }
 {
     let mut out = [0u8; 284];
     let mut x = s;
-    for i in 1..input.len() / 292 {
-        x = take::take(
-            x,
-            slots,
-            memory,
-            octets::part_of(input, i * 292, 292),
-            &mut out,
-        )
-        .server;
+    for r in octets::tail(input, 292).chunks_exact(292) {
+        x = take::take(x, slots, memory, r, &mut out).server;
     }
     x
 }

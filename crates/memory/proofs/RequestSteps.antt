@@ -15,7 +15,7 @@ use Rattle.rules.specs.Server.{Entry, Request}
 use Rattle.rules.specs.Requests.{asks, raised, join, Wanted}
 use Rattle.memory.specs.Layout.{request_size, memory_size, list_place, request_tag_place, request_place}
 use Rattle.memory.specs.Memory.{entry_named, tag_of, request_in, requests_in, memory_of, requests_put, requests_of}
-use Rattle.memory.specs.Search.{FirstOctet}
+use Rattle.memory.specs.Search.{FirstOctet, FirstIndex}
 use Rattle.memory.specs.Lists.{rooms_in, no_request, Listed, goes, Joins}
 use Rattle.memory.proofs.Rooms.{rooms_length, rooms_get, requests_in_lem, requests_of_lem, listed_none, listed_then, listed_requests}
 use Rattle.memory.proofs.RoomReads.{room_is, asks_other, raised_newer, raised_not}
@@ -81,6 +81,14 @@ module _ (s : List ℕ) (k n i : ℕ) (name : List ℕ) (long : n ≡ length (re
 
   pub find_end : Looked → n ≤ i → None ≡ position (asks (entry_named name)) (requests_in s k)
   find_end so h = sym (place_end (asks (entry_named name)) no_request (requests_in s k) i (omega arith) so)
+
+-- no tag is the entry's
+pub find_none : (s : List ℕ) (k n : ℕ) (name : List ℕ) → n ≡ length (requests_in s k) → (t at : ℕ) → k < 8 → length s ≡ memory_size
+    → 4 < length name → t ≡ tag_of name → n ≤ 64 → at ≡ request_tag_place k 0 → FirstIndex s at t None
+    → None ≡ position (asks (entry_named name)) (requests_in s k)
+find_none s k n name long t at slot size four own most place f =
+    find_end s k n 64 name long (find_from s k n 64 name long t at slot size four own most place
+    (record { there = λ h. absurd (omega arith); none_before = λ j h e. absurd (f j h e) })) most
 
 -- ---- a number raised
 module _ (s t : List ℕ) (k i : ℕ) (e : Entry) (n m : CsaNumber) (r : Bool) (room : i < 64) (is : m ≡ (request_in s k i).number) where

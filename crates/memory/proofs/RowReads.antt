@@ -1,7 +1,12 @@
 -- What the searches and the count answer.
 -- Assumes nothing.
-use Rattle.std.proofs.Common.{◌≡◌, ℕ, ◌+◌, ◌<◌, ◌≤◌, Bool, true, false, not, eqb, List, length, drop, sym, refl, ap, ◌∙◌, arith}
+use Rattle.std.proofs.Common.{◌≡◌, ℕ, zero, suc, ◌+◌, ◌-◌, drop_of_length-le, ◌<◌, ◌≤◌, Bool, true, false, not, eqb, List, length, drop, sym, refl, ap, ◌∙◌, arith}
 use Rattle.std.specs.Int.{from_bool}
+use Rattle.std.specs.List.{sum_by}
+use Rattle.std.proofs.lemmas.List.Sums.{sum_by-drop_more}
+use Rattle.laws.specs.Lists.{part}
+use Rattle.laws.proofs.Lists.{part_length}
+use Rattle.memory.proofs.Rooms.{octet_part}
 use Rattle.laws.specs.Choice.{pick}
 use Rattle.laws.specs.Tables.{count}
 use Rattle.protocol.specs.Fields.{octet}
@@ -88,28 +93,35 @@ one_most : (b : Bool) → pick b 1 0 ≤ 1
 one_most true = omega arith
 one_most false = omega arith
 
-module _ (s : List ℕ) where
-  -- n rows before i are used
-  pub record Counted (n i : ℕ) : Type 0 where
-    pub within : i ≤ rows_most
-    pub few : n ≤ i
-    pub counted : rows_used (rows_in s) ≡ n + count is_used (drop i (rows_in s))
+-- by the key lengths
+module _ (s : List ℕ) (size : length s ≡ memory_size) where
+  abbrev one_if : ℕ → ℕ
+  one_if x = from_bool (not (eqb x 0))
 
-  pub counted_more : (n i x : ℕ) → i < rows_most → Counted n i → x ≡ from_bool (not (eqb (octet s (length_place i)) 0)) → Counted (n + x) (i + 1)
-  counted_more n i x h c e =
+  counted_from : (n i : ℕ) → n ≡ 64 - i → (sum_by one_if (drop i (part s lengths_at 64)) ≡ count is_used (drop i (rows_in s)))
+      × (count is_used (drop i (rows_in s)) ≤ n)
+  counted_from zero i e =
+      let l : length (part s lengths_at 64) ≡ 64 = part_length s lengths_at 64 (omega arith) in
       let k : length (rows_in s) ≡ rows_most = rows_length s in
-      let f = c.few in
-      let w = c.within in
-      let q = c.counted in
-      let z : x ≡ pick (is_used (row_at (rows_in s) i)) 1 0 = e ∙ one_of (not (eqb (octet s (length_place i)) 0))
-      ∙ ap (λ b. pick b 1 0) (sym (is_used_lem s i) ∙ ap is_used (sym (row_get s i h))) in
-      let l : x ≤ 1 = rw z (one_most (is_used (row_at (rows_in s) i))) in
-      let r : count is_used (drop i (rows_in s)) ≡ x + count is_used (drop (i + 1) (rows_in s)) = rw z (count_step is_used (rows_in s) i (omega arith)) in
-      record { within = omega arith; few = omega arith; counted = omega arith }
+      let z : count is_used (drop i (rows_in s)) ≡ 0 = count_none is_used (rows_in s) i (omega arith) in
+      (ap (sum_by one_if) (drop_of_length-le (part s lengths_at 64) {i = i} (omega arith)) ∙ sym z, omega arith)
+  counted_from (suc n) i e =
+      let l : length (part s lengths_at 64) ≡ 64 = part_length s lengths_at 64 (omega arith) in
+      let k : length (rows_in s) ≡ rows_most = rows_length s in
+      let h : i < 64 = omega arith in
+      let rest = counted_from n (i + 1) (omega arith) in
+      let b : Bool = is_used (row_at (rows_in s) i) in
+      let v : one_if (octet (part s lengths_at 64) i) ≡ pick b 1 0 = ap one_if (octet_part s lengths_at 64 i h)
+      ∙ one_of (not (eqb (octet s (length_place i)) 0)) ∙ ap (λ t. pick t 1 0) (sym (is_used_lem s i) ∙ ap is_used (sym (row_get s i h))) in
+      let m : pick b 1 0 ≤ 1 = one_most b in
+      let q = sum_by-drop_more one_if (part s lengths_at 64) i 0 (omega arith) in
+      let r : count is_used (drop i (rows_in s)) ≡ pick b 1 0 + count is_used (drop (i + 1) (rows_in s)) = count_step is_used (rows_in s) i (omega arith) in
+      let u = rest.0 in
+      let w = rest.1 in
+      (omega arith, omega arith)
 
-  pub counted_all : (n i : ℕ) → rows_most ≤ i → Counted n i → n ≡ rows_used (rows_in s)
-  counted_all n i h c =
-      let k : length (rows_in s) ≡ rows_most = rows_length s in
-      let q = c.counted in
-      let r : count is_used (drop i (rows_in s)) ≡ 0 = count_none is_used (rows_in s) i (omega arith) in
-      omega arith
+  pub counted : sum_by one_if (part s lengths_at 64) ≡ rows_used (rows_in s)
+  counted = (counted_from 64 0 refl).0
+
+  pub counted_few : sum_by one_if (part s lengths_at 64) < 256
+  counted_few = let c = counted_from 64 0 refl in let e = c.0 in let f = c.1 in omega arith

@@ -65,7 +65,8 @@ fn if_used(length: u8, marks: u8) -> u8
     if length == 0 { 0 } else { marks }
 }
 
-// The slots that some row waits for: without a way out, so that the compiler takes 16 rows at a time.
+// The slots that some row waits for: without a way out, so that the compiler takes 16 rows at a time. `fold` over the two sections zipped is no plainer: a
+// closure of the octet so far and a pair, and a slice of marks beside `rows::lengths`.
 pub fn any_marks(memory: &Storage) -> u8
     ensures { AnyMarks (rows_in memory.now) result }
 {

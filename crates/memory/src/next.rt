@@ -1,10 +1,12 @@
 // The next rows to send: the used ones in row order, and those that wait for a slot, going round.
-ghost use Rattle.std.specs.Prelude.{◌≡◌, ◌≤◌, length, drop, not, ◌==◌};
+ghost use Rattle.std.specs.Prelude.{◌≡◌, ℕ, ◌-◌, ◌%◌, ◌<◌, ◌≤◌, Bool, length, drop, not, ◌==◌};
 ghost use Rattle.std.specs.List.{list_any};
-ghost use Rattle.rules.specs.Rows.{next_used, used_from, next_waiting};
+ghost use Rattle.rules.specs.Rows.{next, next_used, used_from, next_waiting};
 ghost use Rattle.memory.specs.Memory.{rows_in};
+ghost use Rattle.protocol.specs.declared.Index.{Index};
 
 use crate::layout::ROWS;
+use crate::rows::RowIndex;
 use crate::{Storage, marks, rows};
 use protocol::{Index, SlotIndex};
 
@@ -42,18 +44,20 @@ impl Picks {
         &self.rows[..self.count]
     }
 
-    // The next four used rows from row from on, or all that are left.
-    pub fn next_used(memory: &Storage, from: usize) -> Self
-        ensures { Picked from (next_used (rows_in memory.now) from) result }
+    // The next four places whose row passes the test, from place from up to place to, or all if fewer; p is what it says of each place.
+    fn passing<F: Fn(RowIndex) -> bool>(from: usize, to: usize, test: F) -> Self
+        requires { F.IsAlwaysCallable test }
+        ensures { (p : ℕ → Bool) → ((at : ℕ) (i : Index 64) (b : Bool) → at < to → i.at ≡ at % 64 → F.post test i b → b ≡ p at)
+            → Picked from (next p (to - from) 4 from) result }
     {
         let mut rows = [0usize; 4];
         let mut count: usize = 0;
         let mut next = from;
-        for at in from..ROWS {
+        for at in from..to {
             if count == 4 {
                 return Self { count, rows, next };
             }
-            if rows::is_used(memory, Index { at }) {
+            if test(Index { at: at % ROWS }) {
                 rows[count] = at;
                 count += 1;
                 next = at + 1;
@@ -62,25 +66,11 @@ impl Picks {
         Self { count, rows, next }
     }
 
-    // The next four rows that wait for slot k, row by row.
-    fn waiting_from(memory: &Storage, k: SlotIndex, from: usize) -> Self
-        requires { from ≤ 4294967295 }
-        ensures { Picked from (next_waiting (rows_in memory.now) k.at from) result }
+    // The next four used rows from row from on, or all that are left.
+    pub fn next_used(memory: &Storage, from: usize) -> Self
+        ensures { Picked from (next_used (rows_in memory.now) from) result }
     {
-        let mut rows = [0usize; 4];
-        let mut count: usize = 0;
-        let mut next = from;
-        for place in from..from + ROWS {
-            if count == 4 {
-                return Self { count, rows, next };
-            }
-            if marks::waits(memory, Index { at: place % ROWS }, k) {
-                rows[count] = place;
-                count += 1;
-                next = place + 1;
-            }
-        }
-        Self { count, rows, next }
+        Self::passing(from, ROWS, |i| rows::is_used(memory, i))
     }
 
     // The next four rows that wait for slot k from row from on, going round, or all if fewer. Places are counted on past the last row: the row
@@ -90,7 +80,7 @@ impl Picks {
         ensures { Picked from (next_waiting (rows_in memory.now) k.at from) result }
     {
         if marks::is_marked(marks::any_marks(memory), k) {
-            return Self::waiting_from(memory, k, from);
+            return Self::passing(from, from + ROWS, |i| marks::waits(memory, i, k));
         }
         Self {
             count: 0,

@@ -69,8 +69,8 @@ fn find(memory: &Storage, k: SlotIndex, n: usize, e: Named) -> Option<RequestInd
     requires in_bounds { n ≤ 64 }
     ensures { place_of result ≡ position (rules.asks (entry_named e.entry.name.octets.now)) (requests_in memory.now k.at) }
 {
-    let from = tags::first_octet(memory, room::tag_place(k, Index { at: 0 }), e.tag) as usize;
-    for i in from..n {
+    let from = tags::first_index(memory, room::tag_place(k, Index { at: 0 }), e.tag)?;
+    for i in from.at..n {
         let i = Index { at: i };
         if room::asks(memory, k, i, e) {
             return Some(i);

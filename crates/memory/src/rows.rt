@@ -1,5 +1,7 @@
 // The rows: read where they lie, found by entry, counted. An entry is given by its name: key and originator, one behind the other.
-ghost use Rattle.std.specs.Prelude.{◌≡◌, ◌<◌, ◌≤◌, ◌++◌, length, drop};
+ghost use Rattle.std.specs.Prelude.{◌≡◌, ◌<◌, ◌≤◌, ◌++◌, ◌==◌, not, length, drop};
+ghost use Rattle.std.specs.List.{sum_by};
+ghost use Rattle.std.specs.Int.{from_bool};
 ghost use Rattle.laws.specs.Lists.{part};
 ghost use Rattle.laws.specs.Tables.{has};
 ghost use Rattle.rules.specs.Server.{is_free, is_used, holds, rows_used};
@@ -97,7 +99,8 @@ pub fn remaining_of(memory: &Storage, i: RowIndex) -> u16
 }
 
 // ---- searches
-// A search asks of a name only that it has a key, where `Named` would also bound its length.
+// Name and tag apart, not a `Named`, which has at most 20 octets: `find` is public and answers for a name of any length that has a key (`bench` gives
+// plain octets; the laws `find_inserted` and `found_first` speak of any entry), and its callers may not be asked more.
 // Whether row i holds the entry, whose tag is t.
 fn row_is(memory: &Storage, i: RowIndex, name: &[u8], t: u8) -> bool
     requires { (4 < length name.now) × (t ≡ tag_of name.now) }
@@ -150,13 +153,16 @@ pub(crate) fn lengths(memory: &Storage) -> &[u8]
 }
 
 // ---- the count
-// In an octet, so that the compiler counts 16 rows at a time.
+// How many lengths are not 0: in an octet, so that the compiler counts 16 rows at a time.
+fn count_used(lengths: &[u8]) -> u8
+    requires { sum_by (λ x. from_bool (not (x == 0))) lengths.now < 256 }
+    ensures { result ≡ sum_by (λ x. from_bool (not (x == 0))) lengths.now }
+{
+    lengths.iter().map(|length| u8::from(*length != 0)).sum()
+}
+
 pub fn rows_used(memory: &Storage) -> usize
     ensures { result ≡ rows_used (rows_in memory.now) }
 {
-    let mut n: u8 = 0;
-    for i in 0..ROWS {
-        n += u8::from(memory[LENGTHS_AT + i] != 0);
-    }
-    n as usize
+    count_used(lengths(memory)) as usize
 }

@@ -6,7 +6,7 @@ ghost use Rattle.rules.specs.Server.{free, used};
 ghost use Rattle.rules.specs.Rows.{is_purged, to_free, swept_row, swept};
 ghost use Rattle.rules.specs.Updates.{value};
 ghost use Rattle.memory.specs.Memory.{entry_named, is_marked, row_in, rows_in, memory_of, with_rows, fresh_memory};
-ghost use Rattle.memory.specs.Search.{row_head, head_put, value_put, sections_put, row_put, with_row, revalued, Inserts, LastOrNone, FirstLast};
+ghost use Rattle.memory.specs.Search.{head_put, value_put, sections_put, row_put, with_row, revalued, Inserts, LastOrNone, FirstLast};
 
 use crate::layout::{ID, LENGTHS_AT, MARKS_AT, NAME_PLACE, ROW_SIZE, ROWS, TAGS_AT, TOPS_AT};
 use crate::names::EntryName;
@@ -31,34 +31,20 @@ pub struct Held<'a> {
 }
 
 // ---- rows put
-// The first octets of a row's body, the number without its highest octet.
-fn row_head(payload: usize, bits: u32, remaining: u16) -> [u8; 8]
-    requires { payload ≤ payload_most }
-    ensures { result ≡ row_head payload bits remaining }
-{
-    let hops = remaining.to_be_bytes();
-    let number = bits.to_be_bytes();
-    [
-        payload as u8,
-        0,
-        hops[0],
-        hops[1],
-        0,
-        number[1],
-        number[2],
-        number[3],
-    ]
-}
-
-// They, the number's highest octet and the marks.
+// The first octets of a row's body, the number's highest octet and the marks.
 fn put_head(memory: &mut Storage, i: RowIndex, v: Held)
     ensures { memory.new ≡ head_put i.at (length v.entry.payload.octets.now) (bits_of v.entry.number) v.entry.remaining
         v.entry.marks memory.old }
 {
-    let bits = numbers::bits_of(v.number);
-    let head = row_head(v.payload.octets.len(), bits, v.remaining);
-    octets::put(memory, i.at * ROW_SIZE, &head);
-    memory[TOPS_AT + i.at] = (bits / 16777216) as u8;
+    let [top, n1, n2, n3] = numbers::bits_of(v.number).to_be_bytes();
+    let [h0, h1] = v.remaining.to_be_bytes();
+    let payload = v.payload.octets.len() as u8;
+    octets::put(
+        memory,
+        i.at * ROW_SIZE,
+        &[payload, 0, h0, h1, 0, n1, n2, n3],
+    );
+    memory[TOPS_AT + i.at] = top;
     memory[MARKS_AT + i.at] = v.marks;
 }
 
@@ -119,7 +105,7 @@ fn free_at(memory: &mut Storage, i: RowIndex)
 pub fn is_purged(n: CsaNumber) -> bool
     ensures { result ≡ is_purged n }
 {
-    2147483647 <= n.0
+    i32::MAX <= n.0
 }
 
 // Whether row i is to be freed: the number's highest octet tells nearly always that it is not.
@@ -152,7 +138,8 @@ fn last_or_none(length: u8, marks: u8, top: u8, i: u8) -> u8
     }
 }
 
-// The first row that may be one to free: without a way out, and in octets, so that the compiler takes 16 rows at a time.
+// The first row that may be one to free: without a way out, and in octets, so that the compiler takes 16 rows at a time. Tried: `fold` over `0..64` mapped,
+// or over the three sections zipped with it; of both the compiler takes one row at a time.
 fn first_last(memory: &Storage) -> Option<RowIndex>
     ensures { FirstLast memory.now result }
 {

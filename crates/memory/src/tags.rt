@@ -2,7 +2,7 @@
 ghost use Rattle.std.specs.Prelude.{◌≡◌, ◌+◌, ◌≤◌, length, ◌==◌};
 ghost use Rattle.laws.specs.Choice.{pick};
 ghost use Rattle.memory.specs.Memory.{word4, word8, long_sum, name_sum, tag_of};
-ghost use Rattle.memory.specs.Search.{FirstOctet, FirstIndex};
+ghost use Rattle.memory.specs.Search.{FirstIndex};
 
 use crate::Storage;
 use protocol::Index;
@@ -15,12 +15,21 @@ fn short_word(p: &[u8], at: usize) -> u64
     u32::from_le_bytes([p[at], p[at + 1], p[at + 2], p[at + 3]]) as u64
 }
 
-// In two halves, as its definition has it: an array of eight octets would be no plainer.
+// Eight octets, the first the lowest.
 fn word(p: &[u8], at: usize) -> u64
     requires { at + 8 ≤ length p.now }
     ensures { result ≡ word8 p.now at }
 {
-    short_word(p, at + 4) * 4294967296 + short_word(p, at)
+    u64::from_le_bytes([
+        p[at],
+        p[at + 1],
+        p[at + 2],
+        p[at + 3],
+        p[at + 4],
+        p[at + 5],
+        p[at + 6],
+        p[at + 7],
+    ])
 }
 
 fn long_sum(name: &[u8], n: usize) -> u64
@@ -61,22 +70,15 @@ fn place_if(x: u8, t: u8, i: u8) -> u8
     if x == t { i } else { 255 }
 }
 
-// Its place, 255 if there is none: without a way out, so that the compiler takes 16 at a time, and in octets for the same reason.
-pub fn first_octet(memory: &Storage, at: usize, t: u8) -> u8
+// Its index: without a way out, so that the compiler takes 16 octets at a time, and in octets for the same reason. Tried: `fold` over the octets zipped with
+// `0..64`, or over `0..64` mapped; of both the compiler takes one octet at a time.
+pub fn first_index(memory: &Storage, at: usize, t: u8) -> Option<Index<64>>
     requires { at + 64 ≤ length memory.now }
-    ensures { FirstOctet memory.now at t result }
+    ensures { FirstIndex memory.now at t result }
 {
     let mut best: u8 = 255;
     for i in 0..64u8 {
         best = best.min(place_if(memory[at + i as usize], t, i));
     }
-    best
-}
-
-// The same as an index.
-pub fn first_index(memory: &Storage, at: usize, t: u8) -> Option<Index<64>>
-    requires { at + 64 ≤ length memory.now }
-    ensures { FirstIndex memory.now at t result }
-{
-    Index::new(first_octet(memory, at, t) as usize)
+    Index::new(best as usize)
 }

@@ -15,7 +15,7 @@ use Rattle.protocol.specs.declared.Kind.{Kind}
 use Rattle.protocol.specs.declared.Kind.TheVariants.{Ca, CsuRequest, CsuReply, Csus, Hello}
 use Rattle.std.specs.Prelude.{Ok, Err}
 use Rattle.protocol.specs.Checks.{Checked}
-use Rattle.protocol.specs.Checks.{Fine, Breaks}
+use Rattle.protocol.specs.Checks.{Fine}
 use Rattle.protocol.specs.Sizes.{key_most, payload_most}
 use Rattle.protocol.specs.Fields.{octet, field2, field4}
 use Rattle.protocol.specs.Checks.{rule, field, and_then, first_break, is_request_kind, is_hello_kind, common_at, before_checks, receiver_length_good}

@@ -7,7 +7,6 @@ use Rattle.protocol.specs.declared.Kind.{Kind}
 use Rattle.protocol.specs.declared.Kind.TheVariants.{Ca, CsuRequest, CsuReply, Csus, Hello}
 use Rattle.std.specs.Prelude.{Ok, Err}
 use Rattle.protocol.specs.Checks.{Checked}
-use Rattle.protocol.specs.Checks.{Fine, Breaks}
 use Rattle.protocol.specs.declared.CaFlags.{CaFlags}
 use Rattle.protocol.specs.Sizes.{common_size, record_size}
 use Rattle.protocol.specs.Fields.{octet, field2, field4}

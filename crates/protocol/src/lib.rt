@@ -1,7 +1,9 @@
 // The types that code and definitions share. Their meaning is in specs/.
 #![tactic(auto)]
 
-ghost use Rattle.std.specs.Prelude.{◌≡◌, ◌<◌, ◌≤◌, true, is_some, IfSome};
+ghost use Rattle.std.specs.Prelude.{◌≡◌, ◌<◌, ◌≤◌, ◌&&◌, true, leb, if◌then◌else◌, is_some, IfSome, Ok, Err};
+ghost use Rattle.protocol.specs.Layouts.{type_of};
+ghost use Rattle.protocol.specs.Reading.{kind_of};
 
 // An index below N: of a peer slot, of a row, of a request in its list.
 #[derive(Clone, Copy, PartialEq, Eq)]
@@ -43,6 +45,41 @@ pub enum Kind {
     CsuReply,
     Csus,
     Hello,
+}
+
+impl From<Kind> for u8 {
+    ghost from_gives = { λ k n. n ≡ type_of k };
+
+    fn from(k: Kind) -> u8 {
+        match k {
+            Kind::Ca => 1,
+            Kind::CsuRequest => 2,
+            Kind::CsuReply => 3,
+            Kind::Csus => 4,
+            Kind::Hello => 5,
+        }
+    }
+}
+
+// A type octet that no kind has.
+#[derive(Clone, Copy, PartialEq, Eq)]
+pub struct UnknownType(pub u8);
+
+impl TryFrom<u8> for Kind {
+    type Error = UnknownType;
+
+    ghost try_from_gives = { λ t r. r ≡ (if leb 1 t && leb t 5 then Ok (kind_of t) else Err (record { 0 = t })) };
+
+    fn try_from(t: u8) -> Result<Self, UnknownType> {
+        match t {
+            1 => Ok(Kind::Ca),
+            2 => Ok(Kind::CsuRequest),
+            3 => Ok(Kind::CsuReply),
+            4 => Ok(Kind::Csus),
+            5 => Ok(Kind::Hello),
+            _ => Err(UnknownType(t)),
+        }
+    }
 }
 
 // The M, I and O bits of a CA.

@@ -60,18 +60,16 @@ module _ (s : List ℕ) (k : ℕ) where
     asking_none = record { long = refl; within = omega arith; puts = puts_none 32 28 out₀ }
 
     module _ (c : ℕ) (size : c ≡ length (requests_in s k)) (is : most ≡ min c 4) (out : List ℕ) (next i : ℕ) (a : Asking out next i) where
-      pub asking_all : most ≤ i → Places 32 (map request_record (take 4 (requests_in s k))) 28 out₀ out (record { count = most; next = next })
-          × (most ≤ 4)
-      asking_all h =
+      pub asking_all : (few : most ≤ 4) → most ≤ i
+          → Places 32 (map request_record (take 4 (requests_in s k))) 28 out₀ out (record { count = most; next = next; few = few })
+      asking_all few h =
           let l : List Request = requests_in s k in
           let w : i ≤ most = a.within in
           let e : length (take 4 l) ≡ min 4 (length l) = length-take 4 l in
           let z : i ≡ length (take 4 l) = omega arith in
           let same : firsts i ≡ map request_record (take 4 l) = ap (map request_record) (ap (λ (x : ℕ). take x l) z ∙ (take_taken 4 l).1) in
-          let n : most ≡ length (take 4 l) = omega arith in (
-            record { count = n ∙ sym (length-map (take 4 l) request_record); puts = puts_as 32 28 out₀ out next same a.puts },
-            omega arith,
-          )
+          let n : most ≡ length (take 4 l) = omega arith in
+          record { count = n ∙ sym (length-map (take 4 l) request_record); puts = puts_as 32 28 out₀ out next same a.puts }
 
       module _ (h : i < most) (room : 284 ≤ length out₀) where
         pub asking_room : next + 64 ≤ length out

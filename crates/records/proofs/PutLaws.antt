@@ -58,8 +58,8 @@ module _ (most at : ℕ) (out : List ℕ) where
 
 -- ---- how many
 module _ (most at : ℕ) (out : List ℕ) where
-  pub places_none : Places most [] at out out (record { count = 0; next = at })
-  places_none = record { count = refl; puts = puts_none most at out }
+  pub places_none : (x : Placed) → (x.count ≡ 0) × (x.next ≡ at) → Places most [] at out out x
+  places_none x (n, e) = record { count = n; puts = subst (λ (m : ℕ). Puts most [] at out out m) (sym e) (puts_none most at out) }
 
   pub places_then : (rs qs : List CsaRecord) (mid after : List ℕ) (to x : Placed) → to.next ≤ length out → Places most rs at out mid to
       → Adds most qs to mid after x → Places most (rs ++ qs) at out after x
@@ -72,9 +72,9 @@ module _ (most at : ℕ) (out : List ℕ) where
   places_as after x e p = subst (λ (l : List CsaRecord). Places most l at out after x) e p
 
 module _ (most : ℕ) (to : Placed) (out : List ℕ) where
-  pub adds_one : (v : CsaRecord) (after : List ℕ) (n : ℕ) → Puts most (v ∷ []) to.next out after n
-      → Adds most (v ∷ []) to out after (record { count = to.count + 1; next = n })
-  adds_one v after n p = record { count = refl; puts = p }
+  pub adds_one : (v : CsaRecord) (after : List ℕ) (n : ℕ) (few : to.count + 1 ≤ 4) → Puts most (v ∷ []) to.next out after n
+      → Adds most (v ∷ []) to out after (record { count = to.count + 1; next = n; few = few })
+  adds_one v after n few p = record { count = refl; puts = p }
 
   pub adds_none : Adds most [] to out out to
   adds_none = record { count = sym (add-zero to.count); puts = puts_none most to.next out }

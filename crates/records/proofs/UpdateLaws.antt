@@ -49,11 +49,11 @@ module _ (rule : UpdateRule) (live : ℕ → Bool) (k : ℕ) (v : CsaRecord) (s 
 
 -- ---- the reply
 module _ (rule : rules.UpdateRule) (v : CsaRecord) (b : Bool) (is : b ≡ is_acknowledged rule) (to : Placed) (out : List ℕ) where
-  pub reply_put : (w : CsaRecord) (after : List ℕ) (m : ℕ) → w ≡ summary_of v → b ≡ true
-      → Puts 32 (w ∷ []) to.next out after m → Adds 32 (reply_of rule v) to out after (record { count = to.count + 1; next = m })
-  reply_put w after m e t p =
-      adds_as 32 to out after (record { count = to.count + 1; next = m })
-      ((λ j. e j ∷ []) ∙ sym (ap (λ (z : Bool). pick z (summary_of v ∷ []) []) (sym is ∙ t))) (adds_one 32 to out w after m p)
+  pub reply_put : (w : CsaRecord) (after : List ℕ) (m : ℕ) (few : to.count + 1 ≤ 4) → w ≡ summary_of v → b ≡ true
+      → Puts 32 (w ∷ []) to.next out after m → Adds 32 (reply_of rule v) to out after (record { count = to.count + 1; next = m; few = few })
+  reply_put w after m few e t p =
+      adds_as 32 to out after (record { count = to.count + 1; next = m; few = few })
+      ((λ j. e j ∷ []) ∙ sym (ap (λ (z : Bool). pick z (summary_of v ∷ []) []) (sym is ∙ t))) (adds_one 32 to out w after m few p)
 
   pub reply_none : b ≡ false → Adds 32 (reply_of rule v) to out out to
   reply_none t = adds_as 32 to out out to (sym (ap (λ (z : Bool). pick z (summary_of v ∷ []) []) (sym is ∙ t))) (adds_none 32 to out)
@@ -99,14 +99,14 @@ module _ (live : ℕ → Bool) (k : ℕ) (rs : List CsaRecord) (before out₀ : 
     pub others : memory_of s ≡ with_rows (rows_in s) (requests_put k (requests_of (memory_of s) k) (memory_of before))
     pub placed : Places 32 (map summary_of done) 28 out₀ out to
 
-  pub updating_none : length rs ≤ 4 → Updating before out₀ rs (record { count = 0; next = 28 })
-  updating_none f = record {
+  pub updating_none : length rs ≤ 4 → (x : Placed) → (x.count ≡ 0) × (x.next ≡ 28) → Updating before out₀ rs x
+  updating_none f x h = record {
     long = refl;
     done = [];
     few = omega arith;
     so_far = refl;
     others = all_rows before ∙ ap (with_rows (rows_in before)) (sym (requests_same (memory_of before) k));
-    placed = places_none 32 28 out₀;
+    placed = places_none 32 28 out₀ x h;
   }
 
   module _ (s out : List ℕ) (left : List CsaRecord) (to : Placed) (i : Updating s out left to) where
@@ -124,7 +124,7 @@ module _ (live : ℕ → Bool) (k : ℕ) (rs : List CsaRecord) (before out₀ : 
     )
 
     module _ (v : CsaRecord) (rest : List CsaRecord) (step : left ≡ v ∷ rest) (room : 284 ≤ length out₀) where
-      pub updating_room : (to.next + 64 ≤ length out) × (to.count ≤ 4)
+      pub updating_room : (to.next + 64 ≤ length out) × (to.count < 4)
       updating_room =
           let f = i.few in
           let l = i.long in

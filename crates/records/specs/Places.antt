@@ -1,6 +1,6 @@
 -- What the functions leave that put records into a packet to be written.
 -- Assumes nothing.
-use Rattle.std.specs.Prelude.{ℕ, ◌+◌, ◌*◌, ◌≤◌, ◌≡◌, Bool, true, false, List, [], ◌∷◌, length}
+use Rattle.std.specs.Prelude.{ℕ, ◌+◌, ◌*◌, ◌≤◌, ◌≡◌, Bool, List, [], ◌∷◌, length}
 use Rattle.laws.specs.Choice.{pick}
 use Rattle.laws.specs.Puts.{Put}
 use Rattle.protocol.specs.declared.CsaNumber.{CsaNumber}
@@ -11,6 +11,8 @@ use Rattle.rules.specs.Alignment.{summary_record}
 use Rattle.rules.specs.Poll.{held_record}
 use Rattle.rules.specs.Updates.{UpdateRule, is_acknowledged}
 use Rattle.records.specs.declared.put.Placed.{Placed}
+use Rattle.records.specs.declared.held.Shape.{Shape}
+use Rattle.records.specs.declared.held.Shape.TheVariants.{Summary, Whole}
 
 -- a record of an entry
 abbrev pub entry_record : ℕ → Bool → CsaNumber → Entry → List ℕ → CsaRecord
@@ -38,14 +40,14 @@ pub record Adds (most : ℕ) (rs : List CsaRecord) (to : Placed) (before after :
   pub count : x.count ≡ to.count + length rs
   pub puts : Puts most rs to.next before after x.next
 
--- a row as it is put: whole, or its summary
-abbrev pub shape_of : Bool → Entry → Value → CsaRecord
-shape_of true e v = held_record e v
-shape_of false e v = summary_record e v
+-- a row as it is put: its summary, or whole
+abbrev pub shape_of : Shape → Entry → Value → CsaRecord
+shape_of Summary e v = summary_record e v
+shape_of Whole e v = held_record e v
 
-abbrev pub most_of : Bool → ℕ
-most_of true = 64
-most_of false = 32
+abbrev pub most_of : Shape → ℕ
+most_of Summary = 32
+most_of Whole = 64
 
 -- the summary of a record that is acknowledged
 abbrev pub reply_of : UpdateRule → CsaRecord → List CsaRecord

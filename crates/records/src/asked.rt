@@ -4,7 +4,8 @@ ghost use Rattle.rules.specs.Poll.{request_record};
 ghost use Rattle.memory.specs.Memory.{request_in, requests_in};
 ghost use Rattle.records.specs.Places.{Puts, Places};
 
-use crate::put::{Placed, put_summary};
+use crate::put::Placed;
+use crate::summaries::put_summary;
 use memory::requests::RequestIndex;
 use memory::{Storage, requests};
 use protocol::{Index, SlotIndex};
@@ -21,8 +22,8 @@ fn put_request(memory: &Storage, k: SlotIndex, i: RequestIndex, out: &mut [u8], 
 // The first four requests of slot k, or all, from octet 28 on.
 pub fn first_requests(memory: &Storage, k: SlotIndex, out: &mut [u8]) -> Placed
     requires { 284 ≤ length out.old }
-    ensures { Places 32 (map request_record (take 4 (requests_in memory.now k.at))) 28 out.old out.new result
-        × (result.count ≤ 4) }
+    ensures { Places 32 (map request_record (take 4 (requests_in memory.now k.at))) 28 out.old
+        out.new result }
 {
     let count = requests::count(memory, k).min(4);
     let mut next: usize = 28;

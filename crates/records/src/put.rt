@@ -1,23 +1,19 @@
-// A record put into a packet that is to be written.
-ghost use Rattle.std.specs.Prelude.{◌+◌, ◌≤◌, false, [], ◌∷◌, length};
-ghost use Rattle.memory.specs.Memory.{entry_named};
-ghost use Rattle.records.specs.Places.{entry_record, Puts};
+// Records put into a packet that is to be written.
+ghost use Rattle.std.specs.Prelude.{◌≤◌, ◌≡◌};
 
-use protocol::CsaNumber;
-use writer::write::put_record;
-
-// How many records were put, and the place behind them.
+// How many records were put, four at most, and the place behind them.
 #[derive(Clone, Copy)]
 pub struct Placed {
     pub count: usize,
     pub next: usize,
+    pub ghost few: { count ≤ 4 },
 }
 
-// Summaries of ours have hop count 1, no N and no payload.
-pub fn put_summary(out: &mut [u8], at: usize, number: CsaNumber, name: &[u8]) -> usize
-    requires { ((4 ≤ length name.now) × (length name.now ≤ 20)) × (at + 64 ≤ length out.old) }
-    ensures { Puts 32 (entry_record 1 false number (entry_named name.now) [] ∷ []) at out.old out.new result }
-{
-    let none = [0u8; 0];
-    put_record(out, at, 1, false, number, name, &none)
+impl Placed {
+    // None yet, from this place on.
+    pub fn none(next: usize) -> Self
+        ensures { (result.count ≡ 0) × (result.next ≡ next) }
+    {
+        Self { count: 0, next }
+    }
 }

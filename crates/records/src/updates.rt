@@ -12,9 +12,10 @@ ghost use Rattle.records.specs.Views.{csa_of, records_in};
 ghost use Rattle.records.specs.Places.{Adds, Places, reply_of};
 
 use crate::packet::Records;
-use crate::put::{Placed, put_summary};
+use crate::put::Placed;
 use crate::standing;
 use crate::standing::UpdateRule;
+use crate::summaries::put_summary;
 use crate::view::RecordView;
 use memory::rows::RowIndex;
 use memory::{Storage, entries, requests, rows};
@@ -76,7 +77,7 @@ fn is_acknowledged(rule: UpdateRule) -> bool
 
 // One summary more for a record that is acknowledged.
 fn reply_by(rule: UpdateRule, v: RecordView, out: &mut [u8], to: Placed) -> Placed
-    requires { (to.next + 64 ≤ length out.old) × (to.count ≤ 4) }
+    requires { (to.next + 64 ≤ length out.old) × (to.count < 4) }
     ensures { Adds 32 (reply_of (update_rule_of rule) (csa_of v.entry)) to out.old out.new result }
 {
     if is_acknowledged(rule) {
@@ -98,7 +99,7 @@ fn update_one(
     out: &mut [u8],
     to: Placed,
 ) -> Placed
-    requires { (to.next + 64 ≤ length out.old) × (to.count ≤ 4) }
+    requires { (to.next + 64 ≤ length out.old) × (to.count < 4) }
     ensures { Updates (is_marked live) k.at (csa_of v.entry) memory.old memory.new out.old
         out.new to result }
 {
@@ -119,7 +120,7 @@ pub fn update_all(
     ensures replies { Places 32 (map summary_of (rules.all_updated (is_marked live) k.at (records_in records.entry)
         (updated_now k.at [] memory.old)).replies) 28 out.old out.new result × (result.count ≤ 4) }
 {
-    let mut to = Placed { count: 0, next: 28 };
+    let mut to = Placed::none(28);
     for v in records {
         to = update_one(memory, live, k, v, out, to);
     }

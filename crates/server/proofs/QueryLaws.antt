@@ -9,6 +9,7 @@ use lib.Dec.{ltb}
 use lib.ListN.{length, get_or-eq_default}
 use lib.Pow.{pow_mono}
 use borrow.Author.Tests.{ltb-true, ltb-false}
+use Rattle.std.specs.Prelude.{Option, Some, None, is_some, IfSome}
 use Rattle.laws.specs.Choice.{pick}
 use Rattle.laws.proofs.Bools.{or_right}
 use Rattle.protocol.specs.Fields.{octet}
@@ -117,8 +118,14 @@ module _ (s : List ℕ) (i : ℕ) where
   pub used_at : (j : Index 64) → j.at ≡ i → (b : Bool) → b ≡ is_used (row_in s j.at) → b ≡ is_used (row_at (rows_in s) i)
   used_at j q b e = used_below b (omega (arith, j.below, q)) (e ∙ ap (λ (n : ℕ). is_used (row_in s n)) q)
 
-  pub row_shown : (j : Index 64) → j.at ≡ i → true ≡ is_used (row_at (rows_in s) i) → used_row s j.at ≡ row_at (rows_in s) i
+  row_shown : (j : Index 64) → j.at ≡ i → true ≡ is_used (row_at (rows_in s) i) → used_row s j.at ≡ row_at (rows_in s) i
   row_shown j q e = ap (λ (n : ℕ). used_row s n) q ∙ row_used true e refl
+
+  -- what a row that may be in use shows, or a free one
+  pub row_or : {B : Type 0} (f : Row → B) (o : Option (Index 64)) (r : B) → is_some o ≡ is_used (row_at (rows_in s) i) → IfSome o (λ j. j.at ≡ i)
+      → (o ≡ None → r ≡ f free) → ((j : Index 64) → o ≡ Some j → r ≡ f (used_row s j.at)) → r ≡ f (row_at (rows_in s) i)
+  row_or f None r u q n h = n refl ∙ ap f (free_by (row_at (rows_in s) i) (sym u))
+  row_or f (Some j) r u q n h = h j refl ∙ ap f (row_shown j q u)
 
   -- no mark above bit 7 of an octet
   unmarked : (k n : ℕ) (b : Bool) → 8 ≤ k → n < 256 → is_marked n k ≡ b → false ≡ b

@@ -1,6 +1,6 @@
 -- What the server and its memory mean, and the contract of an event.
 -- Assumes nothing.
-use Rattle.std.specs.Prelude.{ℕ, ◌≡◌, Bool, true, false, ◌||◌, List, length}
+use Rattle.std.specs.Prelude.{ℕ, ◌≡◌, Bool, true, false, ◌||◌, List, length, Result, Ok, Err}
 use Rattle.std.proofs.Math.ListN as lists
 use Rattle.laws.specs.Lists.{table}
 use Rattle.laws.specs.Tables.{on}
@@ -16,6 +16,7 @@ use Rattle.memory.specs.Memory.{rows_in}
 use Rattle.slots.specs.declared.state.Settings.{Settings}
 use Rattle.slots.specs.declared.state.Slot.{Slot}
 use Rattle.slots.specs.declared.state.Server.{Server}
+use Rattle.slots.specs.declared.answers.Failure.{Failure}
 use Rattle.slots.specs.Codes.{code_number, written_of}
 use Rattle.slots.specs.State.{settings_of}
 use Rattle.table.specs.Slots.{slot_in, OthersStay}
@@ -34,6 +35,11 @@ server_of s slots memory = record {
   slots = slots_of slots memory;
   rows = rows_in memory;
 }
+
+-- the answer to an event: where it is refused, the server that came
+abbrev pub answer_of : Server → Result (Server × ℕ) Failure → Answer
+answer_of s (Ok x) = record { server = x.0; outcome = Ok x.1 }
+answer_of s (Err f) = record { server = s; outcome = Err f }
 
 -- ---- what an event does: the code, the server, its slots and its memory are those of the step, and a refusal leaves all of them as they
 -- came, but for the malformed Hello. After an event that counts each word and octet is the program's choice, and every choice has its

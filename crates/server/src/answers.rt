@@ -2,7 +2,7 @@
 ghost use Rattle.std.specs.Prelude.{◌≡◌, List, ℕ, IfOk, Ok, Err};
 ghost use Rattle.rules.specs.Refusals as rules;
 ghost use Rattle.slots.specs.Codes.{code_number};
-ghost use Rattle.server.specs.State.{server_of};
+ghost use Rattle.server.specs.State.{server_of, answer_of};
 
 use protocol::{Index, SlotIndex};
 use slots::answers::Failure;
@@ -51,6 +51,19 @@ pub fn poll_code(
         return Err(Failure::LinkDown);
     }
     Ok(k)
+}
+
+// The answer to an event: the server that it leaves and the octets written, or a refusal, with the server as it came.
+pub fn of_event(s: Server, r: Result<(Server, usize), Failure>) -> Answer
+    ensures { result ≡ answer_of s r }
+{
+    match r {
+        Ok((server, n)) => Answer {
+            server,
+            outcome: Ok(n),
+        },
+        Err(f) => refuse(s, f),
+    }
 }
 
 // A refusal: nothing is changed, nothing written.

@@ -1,12 +1,11 @@
 // The end of an event, and the slots that puts go to.
-ghost use Rattle.std.specs.Prelude.{◌≡◌, List, ℕ, Ok};
+ghost use Rattle.std.specs.Prelude.{◌≡◌, List, ℕ};
 ghost use Rattle.rules.specs.Links as links;
 ghost use Rattle.rules.specs.Events.{live_in};
 ghost use Rattle.memory.specs.Memory.{is_marked};
 ghost use Rattle.table.specs.Slots.{slot_in};
 ghost use Rattle.server.specs.State.{slots_of, marked_if, Closes};
 
-use crate::answers::Answer;
 use memory::{Storage, marks, store};
 use protocol::{Alignment, Index, SlotIndex};
 use slots::alignment;
@@ -28,6 +27,7 @@ pub fn live_of(slots: &Slots) -> u8
     ensures { (memory : List ℕ) → is_marked result ≡ live_in (slots_of slots.now memory) }
 {
     let mut b: u8 = 0;
+    // A loop: a closure would not know that k is below 8.
     for k in 0..8 {
         b = mark_live(slots, Index { at: k }, b);
     }
@@ -54,24 +54,4 @@ pub fn close(
         store::sweep(memory);
     }
     Server { time, ..s }
-}
-
-pub fn taken(
-    s: Server,
-    slots: &Slots,
-    memory: &mut Storage,
-    k: SlotIndex,
-    time: u32,
-    changes: bool,
-    from: Alignment,
-    written: usize,
-) -> Answer
-    ensures { Closes changes from s slots.now k.at time memory.old memory.new result.server
-        × (result ≡ record { server = result.server; outcome = Ok written }) }
-{
-    let server = close(s, slots, memory, k, time, changes, from);
-    Answer {
-        server,
-        outcome: Ok(written),
-    }
 }

@@ -6,7 +6,7 @@ ghost use Rattle.rules.specs.Events as events;
 ghost use Rattle.server.specs.State.{Does, DoesOut, Starts};
 
 use crate::answers::Answer;
-use crate::{links, own, packet, peers, poll};
+use crate::{answers, links, own, packet, peers, poll};
 use memory::Storage;
 use slots::state::{Server, Settings};
 use table::Slots;
@@ -29,13 +29,13 @@ pub fn add_peer(
         memory.new result }
 {
     octets::bounded(id);
-    peers::add_peer(s, slots, memory, slot, id)
+    answers::of_event(s, peers::add_peer(s, slots, memory, slot, id))
 }
 
 pub fn link_up(s: Server, slots: &mut Slots, memory: &mut Storage, slot: usize, time: u32) -> Answer
     ensures { Does (events.link_up slot time) s slots.old slots.new memory.old memory.new result }
 {
-    links::link_up(s, slots, memory, slot, time)
+    answers::of_event(s, links::link_up(s, slots, memory, slot, time))
 }
 
 pub fn link_down(
@@ -47,7 +47,7 @@ pub fn link_down(
 ) -> Answer
     ensures { Does (events.link_down slot time) s slots.old slots.new memory.old memory.new result }
 {
-    links::link_down(s, slots, memory, slot, time)
+    answers::of_event(s, links::link_down(s, slots, memory, slot, time))
 }
 
 pub fn packet(
@@ -77,7 +77,7 @@ pub fn poll(
     ensures { DoesOut (events.poll slot time (length out.old)) s slots.old slots.new memory.old
         memory.new out.old out.new result }
 {
-    poll::poll(s, slots, memory, slot, time, out)
+    answers::of_event(s, poll::poll(s, slots, memory, slot, time, out))
 }
 
 pub fn set(s: Server, slots: &Slots, memory: &mut Storage, key: &[u8], payload: &[u8]) -> Answer
@@ -86,19 +86,19 @@ pub fn set(s: Server, slots: &Slots, memory: &mut Storage, key: &[u8], payload: 
 {
     octets::bounded(key);
     octets::bounded(payload);
-    own::set(s, slots, memory, key, payload)
+    answers::of_event(s, own::set(s, slots, memory, key, payload))
 }
 
 pub fn withdraw(s: Server, slots: &Slots, memory: &mut Storage, key: &[u8]) -> Answer
     ensures { Does (events.withdraw key.now) s slots.now slots.now memory.old memory.new result }
 {
     octets::bounded(key);
-    own::withdraw(s, slots, memory, key)
+    answers::of_event(s, own::withdraw(s, slots, memory, key))
 }
 
 pub fn purge(s: Server, slots: &Slots, memory: &mut Storage, key: &[u8]) -> Answer
     ensures { Does (events.purge key.now) s slots.now slots.now memory.old memory.new result }
 {
     octets::bounded(key);
-    own::purge(s, slots, memory, key)
+    answers::of_event(s, own::purge(s, slots, memory, key))
 }

@@ -1,13 +1,13 @@
 // Link up and link down.
 ghost use Rattle.rules.specs.Events as events;
-ghost use Rattle.server.specs.State.{Steps};
+ghost use Rattle.server.specs.State.{Steps, answer_of};
 ghost use Rattle.server.specs.Events.{Ups};
 
-use crate::answers::Answer;
 use crate::{answers, ends};
 use actions::moves;
 use memory::Storage;
 use protocol::{HelloState, SlotIndex};
+use slots::answers::Failure;
 use slots::hello;
 use slots::state::Server;
 use table::{Slots, fields};
@@ -22,17 +22,20 @@ fn up(slots: &mut Slots, memory: &mut Storage, k: SlotIndex)
     }
 }
 
-pub fn link_up(s: Server, slots: &mut Slots, memory: &mut Storage, slot: usize, time: u32) -> Answer
-    ensures { Steps (events.link_up slot time) s slots.old slots.new memory.old memory.new result }
+pub fn link_up(
+    s: Server,
+    slots: &mut Slots,
+    memory: &mut Storage,
+    slot: usize,
+    time: u32,
+) -> Result<(Server, usize), Failure>
+    ensures { Steps (events.link_up slot time) s slots.old slots.new memory.old memory.new (answer_of s result) }
 {
-    match answers::link_code(s, slots, slot, time) {
-        Err(f) => answers::refuse(s, f),
-        Ok(k) => {
-            let from = table::alignment_at(slots, k);
-            up(slots, memory, k);
-            ends::taken(s, slots, memory, k, time, false, from, 0)
-        }
-    }
+    let k = answers::link_code(s, slots, slot, time)?;
+    let from = table::alignment_at(slots, k);
+    up(slots, memory, k);
+    let server = ends::close(s, slots, memory, k, time, false, from);
+    Ok((server, 0))
 }
 
 // Beside `link_up`, another event of the rules: with a closure for the move, which alone differs, neither is plainer.
@@ -42,15 +45,12 @@ pub fn link_down(
     memory: &mut Storage,
     slot: usize,
     time: u32,
-) -> Answer
-    ensures { Steps (events.link_down slot time) s slots.old slots.new memory.old memory.new result }
+) -> Result<(Server, usize), Failure>
+    ensures { Steps (events.link_down slot time) s slots.old slots.new memory.old memory.new (answer_of s result) }
 {
-    match answers::link_code(s, slots, slot, time) {
-        Err(f) => answers::refuse(s, f),
-        Ok(k) => {
-            let from = table::alignment_at(slots, k);
-            moves::move_to(slots, memory, k, HelloState::Down);
-            ends::taken(s, slots, memory, k, time, false, from, 0)
-        }
-    }
+    let k = answers::link_code(s, slots, slot, time)?;
+    let from = table::alignment_at(slots, k);
+    moves::move_to(slots, memory, k, HelloState::Down);
+    let server = ends::close(s, slots, memory, k, time, false, from);
+    Ok((server, 0))
 }

@@ -1,6 +1,6 @@
 // Document 01, 'Updates': set, withdraw and purge, changes of our own entries.
 ghost use Rattle.std.specs.Prelude.{◌≡◌, ◌&&◌, List, true, ℕ, ltb, leb, length, take, IfOk};
-ghost use Rattle.protocol.specs.Numbers as numbers;
+ghost use Rattle.protocol.specs.Numbers.{spent};
 ghost use Rattle.rules.specs.Refusals.{own_entry};
 ghost use Rattle.memory.specs.Search.{place_of, FitsKey, first_from};
 ghost use Rattle.slots.specs.State.{settings_of};
@@ -8,14 +8,13 @@ ghost use Rattle.rules.specs.Events as events;
 ghost use Rattle.rules.specs.Refusals as rules;
 ghost use Rattle.memory.specs.Memory.{entry_named, rows_in};
 ghost use Rattle.slots.specs.Codes.{code_number};
-ghost use Rattle.server.specs.State.{server_of, Steps};
+ghost use Rattle.server.specs.State.{server_of, Steps, answer_of};
 ghost use Rattle.rules.specs.Server.{holds};
 ghost use Rattle.slots.specs.declared.state.Server as declared;
 ghost use Rattle.server.specs.Events.{own_code, IsOwn};
 ghost use Rattle.slots.specs.declared.state.Slot.{Slot};
 
-use crate::answers::Answer;
-use crate::{answers, ends};
+use crate::ends;
 use memory::names::{EntryName, Name};
 use memory::rows::RowIndex;
 use memory::store::Payload;
@@ -25,11 +24,11 @@ use slots::answers::Failure;
 use slots::state::Server;
 use table::Slots;
 
-// 2147483646 or more.
+// No number comes after it.
 fn is_spent(n: CsaNumber) -> bool
-    ensures { result ≡ numbers.spent n }
+    ensures { result ≡ spent n }
 {
-    2147483646 <= n.0
+    numbers::next_csa(n).is_none()
 }
 
 // The name of our entry with this key.
@@ -56,10 +55,18 @@ fn set_code(memory: &Storage, found: Option<RowIndex>) -> Result<(), Failure>
         ≡ rules.set_code (server_of s slots memory.now) key payload }
 {
     match found {
-        Some(i) if is_spent(rows::number_of(memory, i)) => Err(Failure::NumberSpent),
-        None if !rows::has_free(memory) => Err(Failure::NoFreeRow),
-        _ => Ok(()),
+        Some(i) => {
+            if is_spent(rows::number_of(memory, i)) {
+                return Err(Failure::NumberSpent);
+            }
+        }
+        None => {
+            if !rows::has_free(memory) {
+                return Err(Failure::NoFreeRow);
+            }
+        }
     }
+    Ok(())
 }
 
 // By the name of the entry: its key is good, and the payload too.
@@ -69,28 +76,29 @@ fn set_named(
     memory: &mut Storage,
     name: EntryName,
     payload: Payload,
-) -> Answer
+) -> Result<(Server, usize), Failure>
     ensures { (key : List ℕ) → rules.own_key_good key ≡ true → rules.own_payload_good payload.entry.octets.now ≡ true
         → entry_named name.entry.octets.now ≡ own_entry (settings_of s.settings) key
-        → Steps (events.set key payload.entry.octets.now) s slots.now slots.now memory.old memory.new result }
+        → Steps (events.set key payload.entry.octets.now) s slots.now slots.now memory.old memory.new (answer_of s result) }
 {
     let found = rows::find(memory, name.octets);
-    match set_code(memory, found) {
-        Err(f) => answers::refuse(s, f),
-        Ok(()) => {
-            entries::set_entry(memory, found, ends::live_of(slots), name, payload);
-            store::sweep(memory);
-            answers::take(s)
-        }
-    }
+    set_code(memory, found)?;
+    entries::set_entry(memory, found, ends::live_of(slots), name, payload);
+    store::sweep(memory);
+    Ok((s, 0))
 }
 
-pub fn set(s: Server, slots: &Slots, memory: &mut Storage, key: &[u8], payload: &[u8]) -> Answer
-    ensures { Steps (events.set key.now payload.now) s slots.now slots.now memory.old
-        memory.new result }
+pub fn set(
+    s: Server,
+    slots: &Slots,
+    memory: &mut Storage,
+    key: &[u8],
+    payload: &[u8],
+) -> Result<(Server, usize), Failure>
+    ensures { Steps (events.set key.now payload.now) s slots.now slots.now memory.old memory.new (answer_of s result) }
 {
     if !fits(key, 16) || !fits(payload, 32) {
-        return answers::refuse(s, Failure::Size);
+        return Err(Failure::Size);
     }
     let name = own_name(s, key);
     set_named(
@@ -130,18 +138,18 @@ fn withdraw_row(s: Server, memory: &Storage, key: &[u8]) -> Result<RowIndex, Fai
     Ok(i)
 }
 
-pub fn withdraw(s: Server, slots: &Slots, memory: &mut Storage, key: &[u8]) -> Answer
-    ensures { Steps (events.withdraw key.now) s slots.now slots.now memory.old
-        memory.new result }
+pub fn withdraw(
+    s: Server,
+    slots: &Slots,
+    memory: &mut Storage,
+    key: &[u8],
+) -> Result<(Server, usize), Failure>
+    ensures { Steps (events.withdraw key.now) s slots.now slots.now memory.old memory.new (answer_of s result) }
 {
-    match withdraw_row(s, memory, key) {
-        Err(f) => answers::refuse(s, f),
-        Ok(i) => {
-            entries::withdraw_entry(memory, ends::live_of(slots), Some(i));
-            store::sweep(memory);
-            answers::take(s)
-        }
-    }
+    let i = withdraw_row(s, memory, key)?;
+    entries::withdraw_entry(memory, ends::live_of(slots), Some(i));
+    store::sweep(memory);
+    Ok((s, 0))
 }
 
 // Its row, if it may be purged. Beside `withdraw_row`, other tests by other rules: what both do is `own_row`.
@@ -157,15 +165,16 @@ fn purge_row(s: Server, memory: &Storage, key: &[u8]) -> Result<RowIndex, Failur
 }
 
 // Beside `withdraw`, another event of the rules: with closures for the test and the change, which alone differ, neither is plainer.
-pub fn purge(s: Server, slots: &Slots, memory: &mut Storage, key: &[u8]) -> Answer
-    ensures { Steps (events.purge key.now) s slots.now slots.now memory.old memory.new result }
+pub fn purge(
+    s: Server,
+    slots: &Slots,
+    memory: &mut Storage,
+    key: &[u8],
+) -> Result<(Server, usize), Failure>
+    ensures { Steps (events.purge key.now) s slots.now slots.now memory.old memory.new (answer_of s result) }
 {
-    match purge_row(s, memory, key) {
-        Err(f) => answers::refuse(s, f),
-        Ok(i) => {
-            entries::purge_entry(memory, ends::live_of(slots), Some(i));
-            store::sweep(memory);
-            answers::take(s)
-        }
-    }
+    let i = purge_row(s, memory, key)?;
+    entries::purge_entry(memory, ends::live_of(slots), Some(i));
+    store::sweep(memory);
+    Ok((s, 0))
 }

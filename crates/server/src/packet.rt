@@ -13,7 +13,7 @@ ghost use Rattle.records.specs.Views.{records_in};
 ghost use Rattle.slots.specs.State.{settings_of, rule_of};
 ghost use Rattle.actions.specs.Parts.{slot_with};
 ghost use Rattle.actions.specs.Steps.{ca_packet_at};
-ghost use Rattle.server.specs.State.{StepsOut};
+ghost use Rattle.server.specs.State.{StepsOut, answer_of};
 ghost use Rattle.server.specs.Events.{Reaches, Reaches-prop, is_ca_kind, ActsOn, DoesRead};
 
 use crate::answers::Answer;
@@ -137,22 +137,19 @@ fn ca_message(
     k: SlotIndex,
     time: u32,
     out: &mut [u8],
-) -> Answer
+) -> Result<(Server, usize), Failure>
     requires { (284 ≤ length out.old) × (is_ca_kind p.head.kind ≡ true) }
     ensures { DoesRead (reading.message (message_of p.entry.octets.now p.entry.head)) p.entry.octets.now k.at time s slots.old slots.new
-        memory.old memory.new out.old out.new result }
+        memory.old memory.new out.old out.new (answer_of s result) }
 {
     let x = table::slot_at(slots, k);
     let settings = s.settings;
     let rule = actions::alignment::rule_for(memory, &settings.id, p.octets, p.head, k, x);
-    match codes::message_code(settings, p.octets, p.head, x.peer, codes::is_refuse(rule)) {
-        Err(f) => answers::refuse(s, f),
-        Ok(()) => {
-            let from = table::alignment_at(slots, k);
-            let n = take_ca(settings, slots, memory, p, k, time, x, rule, out);
-            ends::taken(s, slots, memory, k, time, false, from, n)
-        }
-    }
+    codes::message_code(settings, p.octets, p.head, x.peer, codes::is_refuse(rule))?;
+    let from = table::alignment_at(slots, k);
+    let n = take_ca(settings, slots, memory, p, k, time, x, rule, out);
+    let server = ends::close(s, slots, memory, k, time, false, from);
+    Ok((server, n))
 }
 
 // Any other message.
@@ -164,27 +161,24 @@ fn other_message(
     k: SlotIndex,
     time: u32,
     out: &mut [u8],
-) -> Answer
+) -> Result<(Server, usize), Failure>
     requires { (284 ≤ length out.old) × (is_ca_kind p.head.kind ≡ false) }
     ensures { DoesRead (reading.message (message_of p.entry.octets.now p.entry.head)) p.entry.octets.now k.at time s slots.old slots.new
-        memory.old memory.new out.old out.new result }
+        memory.old memory.new out.old out.new (answer_of s result) }
 {
     let settings = s.settings;
     let from = table::alignment_at(slots, k);
     let peer = table::peer_at(slots, k);
-    match codes::message_code(
+    codes::message_code(
         settings,
         p.octets,
         p.head,
         peer,
         codes::unusable(p.head, from),
-    ) {
-        Err(f) => answers::refuse(s, f),
-        Ok(()) => {
-            let n = act(settings, slots, memory, p, k, time, out);
-            ends::taken(s, slots, memory, k, time, changes_rows(p.head), from, n)
-        }
-    }
+    )?;
+    let n = act(settings, slots, memory, p, k, time, out);
+    let server = ends::close(s, slots, memory, k, time, changes_rows(p.head), from);
+    Ok((server, n))
 }
 
 // A packet that was read. Only a CA reads its slot whole.
@@ -196,10 +190,10 @@ fn message(
     k: SlotIndex,
     time: u32,
     out: &mut [u8],
-) -> Answer
+) -> Result<(Server, usize), Failure>
     requires { 284 ≤ length out.old }
     ensures { DoesRead (reading.message (message_of p.entry.octets.now p.entry.head)) p.entry.octets.now k.at time s slots.old slots.new
-        memory.old memory.new out.old out.new result }
+        memory.old memory.new out.old out.new (answer_of s result) }
 {
     if p.head.kind == Kind::Ca {
         return ca_message(s, slots, memory, p, k, time, out);
@@ -242,7 +236,7 @@ fn failure_of(r: Refusal) -> Failure
     }
 }
 
-// The packet is read, and taken or refused.
+// The packet is read, and taken or refused. No `Result`: a malformed Hello is refused with another server than came.
 fn reading(
     s: Server,
     slots: &mut Slots,
@@ -257,11 +251,12 @@ fn reading(
         memory.old memory.new out.old out.new result }
 {
     match read::read(p) {
-        Ok(head) => message(s, slots, memory, Received { octets: p, head }, k, time, out),
-        Err(r) => match r {
-            Refusal::Malformed(_) => malformed(s, slots, memory, p, k, time),
-            _ => answers::refuse(s, failure_of(r)),
-        },
+        Ok(head) => {
+            let p = Received { octets: p, head };
+            answers::of_event(s, message(s, slots, memory, p, k, time, out))
+        }
+        Err(Refusal::Malformed(_)) => malformed(s, slots, memory, p, k, time),
+        Err(r) => answers::refuse(s, failure_of(r)),
     }
 }
 

@@ -5,7 +5,7 @@ ghost use Rattle.rules.specs.Events as events;
 ghost use Rattle.rules.specs.Refusals as rules;
 ghost use Rattle.table.specs.Slots.{slot_in};
 ghost use Rattle.slots.specs.Codes.{code_number};
-ghost use Rattle.server.specs.State.{slots_of, server_of, Steps, Starts};
+ghost use Rattle.server.specs.State.{slots_of, server_of, answer_of, Steps, Starts};
 
 use crate::answers;
 use crate::answers::Answer;
@@ -43,6 +43,7 @@ fn is_peer(slots: &Slots, k: SlotIndex, id: &[u8]) -> bool
 fn has_peer(slots: &Slots, id: &[u8]) -> bool
     ensures { (memory : List ℕ) → result ≡ has (rules.is_peer id.now) (slots_of slots.now memory) }
 {
+    // A loop: a closure would not know that k is below 8.
     for k in 0..8 {
         if is_peer(slots, Index { at: k }, id) {
             return true;
@@ -83,14 +84,10 @@ pub fn add_peer(
     memory: &mut Storage,
     slot: usize,
     id: &[u8],
-) -> Answer
-    ensures { Steps (events.add_peer slot id.now) s slots.old slots.new memory.old memory.new result }
+) -> Result<(Server, usize), Failure>
+    ensures { Steps (events.add_peer slot id.now) s slots.old slots.new memory.old memory.new (answer_of s result) }
 {
-    match add_code(s, slots, slot, id) {
-        Err(f) => answers::refuse(s, f),
-        Ok(k) => {
-            let server = add_taken(s, slots, memory, k, id);
-            answers::take(server)
-        }
-    }
+    let k = add_code(s, slots, slot, id)?;
+    let server = add_taken(s, slots, memory, k, id);
+    Ok((server, 0))
 }

@@ -1,14 +1,14 @@
 // A poll.
-ghost use Rattle.std.specs.Prelude.{◌≡◌, ◌≤◌, ◌<◌, length};
+ghost use Rattle.std.specs.Prelude.{◌≡◌, ◌≤◌, ◌<◌, length, Ok};
 ghost use Rattle.rules.specs.Events as events;
-ghost use Rattle.server.specs.State.{StepsOut};
+ghost use Rattle.server.specs.State.{StepsOut, answer_of};
 ghost use Rattle.server.specs.Events.{PollsTaken};
 
-use crate::answers::Answer;
 use crate::{answers, ends};
 use actions::poll;
 use memory::Storage;
 use protocol::SlotIndex;
+use slots::answers::Failure;
 use slots::state::Server;
 use table::Slots;
 
@@ -19,15 +19,16 @@ fn poll_taken(
     k: SlotIndex,
     time: u32,
     out: &mut [u8],
-) -> Answer
+) -> (Server, usize)
     requires { 284 ≤ length out.old }
     ensures { PollsTaken k.at time s slots.old slots.new memory.old memory.new out.old
-        out.new result }
+        out.new (answer_of s (Ok result)) }
 {
     let from = table::alignment_at(slots, k);
     let settings = s.settings;
     let n = poll::poll_slot(settings, slots, memory, k, time, out);
-    ends::taken(s, slots, memory, k, time, false, from, n)
+    let server = ends::close(s, slots, memory, k, time, false, from);
+    (server, n)
 }
 
 pub fn poll(
@@ -37,12 +38,10 @@ pub fn poll(
     slot: usize,
     time: u32,
     out: &mut [u8],
-) -> Answer
+) -> Result<(Server, usize), Failure>
     ensures { StepsOut (events.poll slot time (length out.old)) s slots.old slots.new memory.old
-        memory.new out.old out.new result }
+        memory.new out.old out.new (answer_of s result) }
 {
-    match answers::poll_code(s, slots, slot, time, out.len()) {
-        Err(f) => answers::refuse(s, f),
-        Ok(k) => poll_taken(s, slots, memory, k, time, out),
-    }
+    let k = answers::poll_code(s, slots, slot, time, out.len())?;
+    Ok(poll_taken(s, slots, memory, k, time, out))
 }

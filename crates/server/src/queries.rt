@@ -113,46 +113,31 @@ pub fn is_used(memory: &Storage, row: usize) -> bool
 pub fn key_of(memory: &Storage, row: usize) -> &[u8]
     ensures { result.now ≡ (entry_shown (row_at (rows_in memory.now) row)).key }
 {
-    match used_row(memory, row) {
-        Some(i) => rows::key_of(memory, i),
-        None => &[],
-    }
+    used_row(memory, row).map_or(&[], |i| rows::key_of(memory, i))
 }
 
 pub fn originator_of(memory: &Storage, row: usize) -> &[u8]
     ensures { result.now ≡ (entry_shown (row_at (rows_in memory.now) row)).originator }
 {
-    match used_row(memory, row) {
-        Some(i) => rows::originator_of(memory, i),
-        None => &[],
-    }
+    used_row(memory, row).map_or(&[], |i| rows::originator_of(memory, i))
 }
 
 pub fn number_of(memory: &Storage, row: usize) -> CsaNumber
     ensures { result ≡ (value_shown (row_at (rows_in memory.now) row)).number }
 {
-    match used_row(memory, row) {
-        Some(i) => rows::number_of(memory, i),
-        None => CsaNumber(0),
-    }
+    used_row(memory, row).map_or(CsaNumber(0), |i| rows::number_of(memory, i))
 }
 
 pub fn payload_of(memory: &Storage, row: usize) -> &[u8]
     ensures { result.now ≡ (value_shown (row_at (rows_in memory.now) row)).payload }
 {
-    match used_row(memory, row) {
-        Some(i) => rows::payload_of(memory, i),
-        None => &[],
-    }
+    used_row(memory, row).map_or(&[], |i| rows::payload_of(memory, i))
 }
 
 pub fn remaining_of(memory: &Storage, row: usize) -> u16
     ensures { result ≡ (value_shown (row_at (rows_in memory.now) row)).remaining }
 {
-    match used_row(memory, row) {
-        Some(i) => rows::remaining_of(memory, i),
-        None => 0,
-    }
+    used_row(memory, row).map_or(0, |i| rows::remaining_of(memory, i))
 }
 
 // Whether the row waits for the slot.

@@ -1,6 +1,5 @@
 // The lines of a packet.
 ghost use Rattle.std.specs.Prelude.{◌≡◌, ◌≤◌};
-ghost use Rattle.protocol.specs.Layouts.{type_of};
 ghost use Rattle.protocol.specs.Reading as reading;
 ghost use Rattle.wire.specs.Views.{refusal_of};
 
@@ -9,19 +8,6 @@ use protocol::{CaFlags, Kind};
 use wire::read::{Head, Refusal};
 use wire::record;
 use wire::record::Cursor;
-
-// The paper's number of a kind.
-fn type_number(k: Kind) -> u64
-    ensures { result ≡ type_of k }
-{
-    match k {
-        Kind::Ca => 1,
-        Kind::CsuRequest => 2,
-        Kind::CsuReply => 3,
-        Kind::Csus => 4,
-        Kind::Hello => 5,
-    }
-}
 
 // The table's number of a refusal.
 fn refusal_number(r: Refusal) -> u64
@@ -48,7 +34,7 @@ fn refusal_line(r: Refusal) {
 
 fn head_numbers(k: Kind, protocol: u16, group: u16) {
     print::text(b"0 ");
-    print::number(type_number(k));
+    print::number(u8::from(k).into());
     print::space();
     print::number(protocol as u64);
     print::space();

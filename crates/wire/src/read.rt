@@ -1,5 +1,5 @@
 // A packet read where it lies: the refusal that it gets, or what its head says.
-ghost use Rattle.std.specs.Prelude.{◌≡◌, ◌≤◌, ◌&&◌, leb, if◌then◌else◌, IfOk};
+ghost use Rattle.std.specs.Prelude.{◌≡◌, ◌≤◌, IfOk};
 ghost use Rattle.protocol.specs.Sizes.{id_length};
 ghost use Rattle.protocol.specs.Fields.{octet, field2, field4};
 ghost use Rattle.protocol.specs.Numbers as numbers;
@@ -39,20 +39,6 @@ fn length_good(p: &[u8]) -> bool
     8 <= p.len() && p.len() <= 284 && octets::field2(p, 2) as usize == p.len()
 }
 
-// The kind of a type octet, if it is one.
-fn kind_of(t: u8) -> Option<Kind>
-    ensures { result ≡ (if leb 1 t && leb t 5 then Some (definition.kind_of t) else None) }
-{
-    match t {
-        1 => Some(Kind::Ca),
-        2 => Some(Kind::CsuRequest),
-        3 => Some(Kind::CsuReply),
-        4 => Some(Kind::Csus),
-        5 => Some(Kind::Hello),
-        _ => None,
-    }
-}
-
 // The kind of packet, or the first refusal of the fixed part in the table's order.
 #[tactic(auto, unfolding(protocol::specs::Answers::fixed_code))]
 fn fixed_check(p: &[u8]) -> Result<Kind, Refusal>
@@ -65,7 +51,7 @@ fn fixed_check(p: &[u8]) -> Result<Kind, Refusal>
     if octets::octet(p, 0) != 1 {
         return Err(Refusal::Version);
     }
-    let kind = kind_of(octets::octet(p, 1)).ok_or(Refusal::Type)?;
+    let kind = Kind::try_from(octets::octet(p, 1)).map_err(|_| Refusal::Type)?;
     if !numbers::sum::good_sum(p) {
         return Err(Refusal::Checksum);
     }

@@ -19,19 +19,6 @@ pub fn flags_of(f: CaFlags) -> u16
     u16::from(f.master) * 32768 + u16::from(f.initial) * 16384 + u16::from(f.more) * 8192
 }
 
-// A match: `Kind` has no numbers of its own.
-fn type_of(k: Kind) -> u8
-    ensures { result ≡ layouts.type_of k }
-{
-    match k {
-        Kind::Ca => 1,
-        Kind::CsuRequest => 2,
-        Kind::CsuReply => 3,
-        Kind::Csus => 4,
-        Kind::Hello => 5,
-    }
-}
-
 fn checksum(p: &[u8]) -> u16
     requires { length p.now ≤ 65536 }
     ensures { result ≡ checksums.checksum_of p.now }
@@ -54,7 +41,7 @@ fn fixed_part(k: Kind, n: u16) -> [u8; 8]
     ensures { result ≡ layouts.fixed_part k n 0 }
 {
     let [n0, n1] = n.to_be_bytes();
-    [1, type_of(k), n0, n1, 0, 0, 0, 0]
+    [1, k.into(), n0, n1, 0, 0, 0, 0]
 }
 
 // What a Hello has before its common part: HelloInterval, DeadFactor, unused, Family ID.

@@ -60,14 +60,15 @@ pub enum Csu {
     Solicit,
 }
 
-// A match: the cases of `Csu` are three of those of `Kind`.
-fn kind_of(t: Csu) -> Kind
-    ensures { result ≡ csu_kind t }
-{
-    match t {
-        Csu::Request => Kind::CsuRequest,
-        Csu::Reply => Kind::CsuReply,
-        Csu::Solicit => Kind::Csus,
+impl From<Csu> for Kind {
+    ghost from_gives = { λ t k. k ≡ csu_kind t };
+
+    fn from(t: Csu) -> Kind {
+        match t {
+            Csu::Request => Kind::CsuRequest,
+            Csu::Reply => Kind::CsuReply,
+            Csu::Solicit => Kind::Csus,
+        }
     }
 }
 
@@ -78,7 +79,7 @@ pub fn finish_csu(out: &mut [u8], t: Csu, c: Common, count: u16, n: usize)
     ensures finishes_with { FinishesWith (csu_body t) c 28 count n out.old out.new }
     ensures octets { Behind (csu_kind t) (common_part c 0 id_length count) 28 n out.old out.new }
 {
-    put_head(out, kind_of(t), &[], &common_part(c, 0, 4, count), n);
+    put_head(out, t.into(), &[], &common_part(c, 0, 4, count), n);
 }
 
 // The records of a CA start at octet 32.

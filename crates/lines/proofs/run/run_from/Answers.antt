@@ -1,25 +1,16 @@
-use Rattle.std.proofs.Common.{List, ◌++◌, sym, ap, ◌∙◌, subst, arith}
-use Rattle.rules.specs.Events.{Event, run, items}
-use Rattle.server.specs.State.{server_of}
-use Rattle.server.specs.Hosts.{Hosted}
-use Rattle.lines.proofs.RunLaws.{went_none, went_more, went_run, went_host, all_records}
+use Rattle.std.proofs.Common.{◌∙◌, arith}
+use Rattle.lines.proofs.RunLaws.{went_more, record_less, ran_all}
 use Rattle.lines.proofs.run.run_from.Goals as goal
 
-pub loop-i-init : goal.loop-i-init
-loop-i-init c = went_none _ _ _ _ _ _ _ (omega arith)
-
-pub loop-i-preserved : goal.loop-i-preserved
-loop-i-preserved c =
-    went_more c.loop-i.invariant _ _ _ _ _ _ c.part_of.ensures (omega arith) (omega arith) c.take.ensures.server c.take.ensures.host
+pub loop-r-preserved : goal.loop-r-preserved
+loop-r-preserved c =
+    let w = c.loop-r.invariant in
+    let step = c.in-Some.ensures.steps in
+    let long = step.1.1 ∙ w.0 in
+    (step.0 ∙ w.0, went_more w.1 _ _ _ _ _ _ step.1.0 long (record_less _ _ _ step.1.0 long) c.take.ensures.server c.take.ensures.host)
 
 pub returns : goal.returns
 returns c =
-    let l = c.loop-i in
-    let a = c.args in
-    let w = l.invariant in
-    let e = sym (all_records a.input.now) in
-    record {
-      server = went_run w (omega arith) ∙ ap (run (server_of a.s a.slots.now a.memory.now)) e;
-      host = λ k is h. subst (λ (es : List Event). Hosted k l.x l.slots l.memory
-          (is ++ items (server_of a.s a.slots.now a.memory.now) es)) e (went_host w (omega arith) k is h);
-    }
+    let w = c.loop-r.invariant in
+    let few = c.in-None.ensures.steps.1.0 in
+    ran_all w.1 (omega (arith, few, w.0))

@@ -1,12 +1,23 @@
-use Rattle.memory.proofs.RequestSteps.{find_from, find_hit, find_miss, find_end}
+use Rattle.std.proofs.Common.{ap, ◌∙◌, subst}
+use Rattle.memory.specs.Search.{place_of, FirstIndex}
+use Rattle.memory.proofs.RequestSteps.{find_from, find_none, find_hit, find_miss, find_end}
 use Rattle.memory.proofs.requests.find.Goals as goal
+
+pub returns-in_err-from : goal.returns-in_err-from
+returns-in_err-from c =
+    let a = c.args in
+    let p = c.requires in
+    ap place_of c.from_residual.ensures ∙ find_none a.memory.now a.k.at a.n a.e.name.octets.now p.k_bound a.e.tag c.tag_place.result a.k.below (search)
+    a.e.name.fits.0 a.e.tagged p.in_bounds c.tag_place.ensures.0
+    (subst (FirstIndex a.memory.now c.tag_place.result a.e.tag) c.in_err-from.was c.first_index.ensures)
 
 pub loop-i-init : goal.loop-i-init
 loop-i-init c =
     let a = c.args in
     let p = c.requires in
-    find_from a.memory.now a.k.at a.n c.first_octet-from.result a.e.name.octets.now p.k_bound a.e.tag c.tag_place.result a.k.below (search)
-    a.e.name.fits.0 a.e.tagged p.in_bounds c.tag_place.ensures.0 c.first_octet-from.ensures
+    find_from a.memory.now a.k.at a.n c.in_ok-from.from.at a.e.name.octets.now p.k_bound a.e.tag c.tag_place.result a.k.below (search)
+    a.e.name.fits.0 a.e.tagged p.in_bounds c.tag_place.ensures.0
+    (subst (FirstIndex a.memory.now c.tag_place.result a.e.tag) c.in_ok-from.was c.first_index.ensures)
 
 pub loop-i-preserved : goal.loop-i-preserved
 loop-i-preserved c =

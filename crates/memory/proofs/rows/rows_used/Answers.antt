@@ -1,10 +1,13 @@
-use Rattle.memory.proofs.RowReads.{counted_more, counted_all}
+use Rattle.std.proofs.Common.{◌<◌, not, eqb, sym, ap, ◌∙◌, subst}
+use Rattle.std.specs.Int.{from_bool}
+use Rattle.std.specs.List.{sum_by}
+use Rattle.memory.proofs.RowReads.{counted, counted_few}
 use Rattle.memory.proofs.rows.rows_used.Goals as goal
 
-pub loop-i-preserved : goal.loop-i-preserved
-loop-i-preserved c =
-    let l = c.loop-i in
-    counted_more c.args.memory.now l.n l.i c.from-n.result c.loop-i-test.true l.invariant c.from-n.ensures
+pub count_used-requires : goal.count_used-requires
+count_used-requires c =
+    subst (λ l. l < 256) (sym (ap (sum_by (λ x. from_bool (not (eqb x 0)))) c.lengths.ensures)) (counted_few c.args.memory.now c.told-memory)
 
 pub returns : goal.returns
-returns c = counted_all c.args.memory.now c.loop-i.n c.loop-i.i c.loop-i-test.false c.loop-i.invariant
+returns c =
+    c.count_used.ensures ∙ ap (sum_by (λ x. from_bool (not (eqb x 0)))) c.lengths.ensures ∙ counted c.args.memory.now c.told-memory

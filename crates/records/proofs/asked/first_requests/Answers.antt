@@ -29,5 +29,5 @@ returns c =
     let l = c.loop-i in
     let m = c.min-count in
     let n = c.count in
-    asking_all a.memory.now a.k.at m.result a.out.now n.result n.ensures.0 m.ensures l.out l.next l.i l.invariant
+    asking_all a.memory.now a.k.at m.result a.out.now n.result n.ensures.0 m.ensures l.out l.next l.i l.invariant _
     c.loop-i-test.false

@@ -3,4 +3,4 @@ use Rattle.records.proofs.HeldLaws.{Holding}
 use Rattle.records.proofs.held.picked.Given as goal
 
 abbrev pub invariant-loop-place : goal.invariant-loop-place
-invariant-loop-place l = Holding l.memory l.place-items l.whole l.at l.fn.out l.out l.to l.place-index
+invariant-loop-place l = Holding l.memory l.place-items l.shape l.at l.fn.out l.out l.to l.place-index

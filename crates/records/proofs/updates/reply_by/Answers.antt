@@ -12,7 +12,7 @@ returns-then-is_acknowledged c =
     let q = c.put_summary-next in
     let b = c.is_acknowledged in
     reply_put (update_rule_of a.rule) (csa_of a.v) b.result b.ensures a.to a.out.now (summary_of (csa_of a.v)) q.new.out
-    q.result refl c.if-is_acknowledged.true q.ensures
+    q.result _ refl c.if-is_acknowledged.true q.ensures
 
 pub returns : goal.returns
 returns c =

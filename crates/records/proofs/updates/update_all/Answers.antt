@@ -8,7 +8,7 @@ pub loop-v-init : goal.loop-v-init
 loop-v-init c =
     let a = c.args in
     rw c.into_iter-v-iterator.ensures.into_iter_gives
-    (updating_none (is_marked a.live) a.k.at (records_in a.records) a.memory.now a.out.now (few_records a.records))
+    (updating_none (is_marked a.live) a.k.at (records_in a.records) a.memory.now a.out.now (few_records a.records) c.none-to.result c.none-to.ensures)
 
 pub update_one-to-requires : goal.update_one-to-requires
 update_one-to-requires c =

@@ -1,5 +1,5 @@
 -- A message, malformed, or refused with 5 to 9: each is what the definition reads.
-use Rattle.std.proofs.Common.{Bool, ◌&&◌, arith, sym, ap, ◌∙◌, subst}
+use Rattle.std.proofs.Common.{rules, Bool, ◌&&◌, arith, sym, ap, ◌∙◌, subst}
 use Rattle.actions.specs.Parts.{slot_now}
 use Rattle.rules.specs.Refusals.{is_hello_type}
 use Rattle.server.proofs.PacketLaws.{read_refused}
@@ -10,15 +10,15 @@ use Rattle.wire.specs.Views.{reading_of, refusal_of}
 use Rattle.protocol.specs.Reading as reading
 use Rattle.server.proofs.packet.reading.Goals as goal
 
-pub invariant_of-message : goal.invariant_of-message
-invariant_of-message c =
+pub invariant_of-p : goal.invariant_of-p
+invariant_of-p c =
     let a = c.args in
     record {
       reaches = reaches a.p.now c.read.result c.in-Ok.head (λ i. omega (arith, c.type_inv.p i)) c.read.ensures c.in-Ok.is;
     }
 
-pub returns-in_default : goal.returns-in_default
-returns-in_default c =
+pub returns-in-Err : goal.returns-in-Err
+returns-in-Err c =
     let a = c.args in
     let r = c.in-Err.r in
     let x = slot_now a.slots.now a.k.at a.memory.now in
@@ -26,13 +26,14 @@ returns-in_default c =
     subst (λ (m : reading.Reading). DoesRead m a.p.now a.k.at a.time a.s a.slots.now a.slots.now a.memory.now a.memory.now
     a.out.now a.out.now c.refuse.result) (ap (reading_of a.p.now) (sym c.in-Err.is) ∙ c.read.ensures.means)
     (read_refused (refusal_of r) a.p.now a.k.at a.time a.s a.slots.now a.memory.now
-    (ap (λ (b : Bool). b && is_hello_type a.p.now) (not_malformed r c.in_default.not-Malformed s x)) c.failure_of.result
+    (ap (λ (b : Bool). b && is_hello_type a.p.now) (not_malformed r (search rules) s x)) c.failure_of.result
     c.refuse.result a.out.now (sym (c.failure_of.ensures s x)) c.refuse.ensures)
 
-pub returns-in-Malformed : goal.returns-in-Malformed
-returns-in-Malformed c =
+pub returns-in-Err-Malformed : goal.returns-in-Err-Malformed
+returns-in-Err-Malformed c =
     let a = c.args in
     let d = c.malformed in
+    let w = c.in-Err-Malformed in
     subst (λ (m : reading.Reading). DoesRead m a.p.now a.k.at a.time a.s a.slots.now d.new.slots a.memory.now
     d.new.memory a.out.now a.out.now d.result)
-    (sym (ap refusal_of c.in-Malformed.is) ∙ ap (reading_of a.p.now) (sym c.in-Err.is) ∙ c.read.ensures.means) (d.ensures c.in-Malformed.field-0 a.out.now)
+    (sym (ap refusal_of w.field-0-is) ∙ ap (reading_of a.p.now) (sym w.is) ∙ c.read.ensures.means) (d.ensures w.field-0-0 a.out.now)

@@ -1,4 +1,6 @@
 -- The slot's poll, then the end of the event.
+use Rattle.std.proofs.Common.{Ok, refl}
+use Rattle.server.specs.State.{answer_of}
 use Rattle.server.proofs.PollLaws.{polls_taken}
 use Rattle.server.proofs.poll.poll_taken.Goals as goal
 
@@ -6,6 +8,6 @@ pub returns : goal.returns
 returns c =
     let a = c.args in
     let p = c.poll_slot-n in
-    let t = c.taken in
+    let t = c.close-server in
     polls_taken a.s a.slots.now p.new.slots a.k.at a.time a.memory.now t.new.memory a.out.now p.new.out
-    t.result p.new.memory c.alignment_at-from.result p.result a.k.below c.alignment_at-from.ensures p.ensures t.ensures.0 t.ensures.1
+    (answer_of a.s (Ok (t.result, p.result))) p.new.memory c.alignment_at-from.result p.result a.k.below c.alignment_at-from.ensures p.ensures t.ensures refl

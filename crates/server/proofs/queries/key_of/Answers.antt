@@ -1,14 +1,12 @@
 -- That of the row, where it is used.
-use Rattle.std.proofs.Common.{rules, ◌≡◌, is_some, sym, ap, ◌∙◌}
-use Rattle.rules.specs.Server.{Row}
+use Rattle.std.proofs.Common.{rules}
 use Rattle.server.specs.Queries.{entry_shown}
-use Rattle.server.proofs.QueryLaws.{row_shown}
+use Rattle.server.proofs.QueryLaws.{row_or}
 use Rattle.server.proofs.queries.key_of.Goals as goal
 
-pub returns-in-Some : goal.returns-in-Some
-returns-in-Some c =
+pub returns : goal.returns
+returns c =
     let a = c.args in
-    let i = c.in-Some.i in
-    let q : i.at ≡ a.row = search rules in
-    c.key_of.ensures
-    ∙ ap (λ (r : Row). (entry_shown r).key) (row_shown a.memory.now a.row i q (sym (ap is_some c.in-Some.is) ∙ c.used_row.ensures.used))
+    let u = c.used_row in
+    row_or a.memory.now a.row (λ r. (entry_shown r).key) u.result c.map_or.result.now u.ensures.used u.ensures.index
+    (λ e. search rules) (λ j e. search rules)

@@ -7,5 +7,5 @@ pub returns : goal.returns
 returns c =
     let a = c.args in
     let widths : (length a.c.sender ≡ 4) × (length a.c.receiver ≡ 4) = search rules in
-    let octets = behind a.c widths [] 0 a.count 28 c.kind_of.ensures refl refl c.common_part.ensures refl c.put_head.ensures in
+    let octets = behind a.c widths [] 0 a.count 28 c.into.ensures refl refl c.common_part.ensures refl c.put_head.ensures in
     record { finishes_with = finishes_csu a.c widths a.t octets; octets = octets }

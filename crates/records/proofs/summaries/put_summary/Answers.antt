@@ -2,7 +2,7 @@ use Rattle.std.proofs.Common.{length, [], false, arith}
 use Rattle.records.proofs.PutLaws.{puts_one}
 use Rattle.records.specs.Places.{entry_record}
 use Rattle.memory.specs.Memory.{entry_named}
-use Rattle.records.proofs.put.put_summary.Goals as goal
+use Rattle.records.proofs.summaries.put_summary.Goals as goal
 
 pub returns : goal.returns
 returns c =
