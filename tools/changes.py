@@ -9,17 +9,9 @@ import subprocess
 import sys
 import tempfile
 
+from places import closing
+
 HERE = os.path.join(os.path.dirname(os.path.abspath(__file__)), "..")
-
-
-def closing(text, start):
-    depth = 0
-    for i in range(start, len(text)):
-        depth += text[i] in "([{"
-        depth -= text[i] in ")]}"
-        if depth == 0:
-            return i
-    return len(text) - 1
 
 
 def flat(text):

@@ -8,8 +8,6 @@ import os
 import re
 import sys
 
-DRIVERS = ("while ",)
-
 
 def sources(root):
     for folder, _, names in sorted(os.walk(os.path.join(root, "crates"))):
@@ -226,4 +224,5 @@ def main():
             print("\n".join(found[p]))
 
 
-main()
+if __name__ == "__main__":
+    main()

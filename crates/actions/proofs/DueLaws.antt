@@ -31,11 +31,11 @@ use Rattle.memory.proofs.Rooms.{requests_of_lem}
 use Rattle.slots.specs.declared.state.Slot.{Slot}
 use Rattle.actions.specs.declared.due.Due.{Due}
 use Rattle.actions.specs.declared.due.Due.TheVariants.{Update}
-use Rattle.actions.specs.Steps.{due_kind, kind_of, GoodPicks, GoodPlan, Plans}
+use Rattle.actions.specs.Steps.{due_kind, due_as, GoodPicks, GoodPlan, Plans}
 
 -- ---- plans with no rows
 module _ (k : ℕ) (x : Slot) (memory : List ℕ) (r : Option Due) where
-  pub planned : (e : Option Due) (d : poll.Due) → GoodPlan e k x memory → kind_of e ≡ d → r ≡ e → Plans d k x memory r
+  pub planned : (e : Option Due) (d : poll.Due) → GoodPlan e k x memory → due_as e ≡ d → r ≡ e → Plans d k x memory r
   planned e d g f h = subst (λ (p : Option Due). Plans d k x memory p) (sym h) (record { which = f; rows = g })
 
   pub planned_if : (due : Due) → GoodPicks due k x memory → (b : Bool) → r ≡ pick b (Some due) None

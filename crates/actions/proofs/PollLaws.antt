@@ -28,7 +28,7 @@ use Rattle.actions.specs.declared.due.Due.{Due}
 use Rattle.table.specs.Slots.{slot_in}
 use Rattle.writer.specs.Write.{Wrote}
 use Rattle.actions.specs.Parts.{slot_with, slot_now, Leaves, MovesAt, ActsAt}
-use Rattle.actions.specs.Steps.{kind_of, Plans, PollsAt}
+use Rattle.actions.specs.Steps.{due_as, Plans, PollsAt}
 use Rattle.actions.proofs.PartLaws.{left_rows, left_slot, leaves_as, leaves_then, leaves_same, leaves_kept}
 
 -- ---- the Hello check, by what is read of the link
@@ -138,18 +138,18 @@ module _ (s : rules.Settings) (now k : ℕ) (t₀ t₁ t₂ : List Slot) (m₀ m
 
   pub polled : MovesAt k (check_move now (slot_in t₀ k).link) t₀ t₁ m₀ m₁ → Leaves k (kept_dropped now (slot_now t₁ k m₁)) (rows_in m₁) m₁ m₂ (slot_in t₁ k)
       → Plans (poll.due_of s now (rows_in m₂) k (slot_now t₁ k m₂)) k (slot_in t₁ k) m₂ d
-      → ActsAt k (due_slot (kind_of d) s now (rows_in m₂) k (slot_now t₁ k m₂)) (rows_in m₂)
-      (octets_of (due_sent (kind_of d) s (rows_in m₂) k (slot_now t₁ k m₂))) t₁ t₂ m₂ m₃ out out' n
+      → ActsAt k (due_slot (due_as d) s now (rows_in m₂) k (slot_now t₁ k m₂)) (rows_in m₂)
+      (octets_of (due_sent (due_as d) s (rows_in m₂) k (slot_now t₁ k m₂))) t₁ t₂ m₂ m₃ out out' n
       → PollsAt k now s t₀ t₂ m₀ m₃ out out' n
   polled a b c e =
       let y₂ : slot_now t₁ k m₂ ≡ left s now k rows slot = left_slot b h ∙ ap (kept_dropped now) (left_slot a.moves h) in
       let r₂ : rows_in m₂ ≡ cleared_if (entered s now k rows slot) k rows = left_rows b ∙ left_rows a.moves in
-      let due : kind_of d ≡ poll.due_of s now (cleared_if (entered s now k rows slot) k rows) k (left s now k rows slot) =
+      let due : due_as d ≡ poll.due_of s now (cleared_if (entered s now k rows slot) k rows) k (left s now k rows slot) =
       c.which ∙ (λ i. poll.due_of s now (r₂ i) k (y₂ i)) in
       let g = same s now k rows slot in
-      let to : due_slot (kind_of d) s now (rows_in m₂) k (slot_now t₁ k m₂) ≡ poll_slot s now rows k slot = (λ i. due_slot (due i) s now (r₂ i) k (y₂ i))
+      let to : due_slot (due_as d) s now (rows_in m₂) k (slot_now t₁ k m₂) ≡ poll_slot s now rows k slot = (λ i. due_slot (due i) s now (r₂ i) k (y₂ i))
       ∙ g.0 in
-      let what : due_sent (kind_of d) s (rows_in m₂) k (slot_now t₁ k m₂) ≡ poll_sent s now rows k slot =
+      let what : due_sent (due_as d) s (rows_in m₂) k (slot_now t₁ k m₂) ≡ poll_sent s now rows k slot =
       (λ i. due_sent (due i) s (r₂ i) k (y₂ i)) ∙ g.1 in
       let cleared = ap (λ (l : Link). cleared_if (enters slot.link.alignment l.alignment) k rows) (sym (poll_link s now k rows slot)) in
       record {

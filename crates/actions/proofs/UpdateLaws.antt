@@ -21,7 +21,7 @@ use Rattle.memory.specs.Memory.{rows_in, Memory, memory_of, with_rows, requests_
 use Rattle.memory.specs.Entries.{rows_as}
 use Rattle.records.specs.declared.put.Placed.{Placed}
 use Rattle.records.specs.declared.packet.Records.{Records}
-use Rattle.records.specs.Views.{records_in}
+use Rattle.records.specs.Views.{records_left}
 use Rattle.records.specs.Walks.{updated_now, UpdatesAll}
 use Rattle.records.specs.Places.{Puts, Places}
 use Rattle.records.proofs.MemoryLaws.{both_requests}
@@ -105,32 +105,32 @@ module _ (live : ℕ → Bool) (k : ℕ) (rs : List CsaRecord) (before after : L
 
 -- ---- a CSUS
 -- an answer to each record
-solicited_length : (rows : List Row) (r : Records) → length (all_solicited rows (records_in r)) ≡ r.cursor.left
-solicited_length rows r = length-map (records_in r) (solicited rows) ∙ left_records r.packet.now r.cursor
+solicited_length : (rows : List Row) (r : Records) → length (all_solicited rows (records_left r)) ≡ r.cursor.left
+solicited_length rows r = length-map (records_left r) (solicited rows) ∙ left_records r.packet.now r.cursor
 
 pub solicited_within : (rows : List Row) (r : Records) (out mid : List ℕ) (next : ℕ)
-    → Puts 64 (all_solicited rows (records_in r)) 28 out mid next → (28 ≤ next) × (next ≤ 284)
+    → Puts 64 (all_solicited rows (records_left r)) 28 out mid next → (28 ≤ next) × (next ≤ 284)
 solicited_within rows r out mid next puts =
     let size = solicited_length rows r in
     let few = r.walks.few in
-    puts_within 64 (all_solicited rows (records_in r)) 28 out mid next puts (omega arith) (omega arith)
+    puts_within 64 (all_solicited rows (records_left r)) 28 out mid next puts (omega arith) (omega arith)
 
 pub csus_taken : (s : Settings) (k : ℕ) (r : Records) (before answered after : List ℕ) (t : List Slot) (c : Common) (out mid out' : List ℕ) (next n : ℕ)
-    → 284 ≤ length out → c ≡ common_of s (slot_in t k).peer → Puts 64 (all_solicited (rows_in before) (records_in r)) 28 out mid next
+    → 284 ≤ length out → c ≡ common_of s (slot_in t k).peer → Puts 64 (all_solicited (rows_in before) (records_left r)) 28 out mid next
     → WritesSome csu_request c r.cursor.left next mid out' n
-    → memory_of answered ≡ rows_as (all_answers_wait k (records_in r)) before
+    → memory_of answered ≡ rows_as (all_answers_wait k (records_left r)) before
     → memory_of after ≡ kept_put k [] (memory_of answered)
-    → TakesCsus k (settings_of s) (records_in r) t before after out out' n
+    → TakesCsus k (settings_of s) (records_left r) t before after out out' n
 csus_taken s k r before answered after t c out mid out' next n long e puts w a m =
     let x : Slot = slot_in t k in
-    let rs : List CsaRecord = all_solicited (rows_in before) (records_in r) in
+    let rs : List CsaRecord = all_solicited (rows_in before) (records_left r) in
     let size : length rs ≡ r.cursor.left = solicited_length (rows_in before) r in
     let h = solicited_within (rows_in before) r out mid next puts in
     let wrote = w rs out (sym size) (omega arith) puts.octets in
     record {
       acts = record {
         left =
-            leaves_rows_kept k (with_kept [] (slot_with x k before)) before after x (all_answers_wait k (records_in r) (rows_in before)) []
+            leaves_rows_kept k (with_kept [] (slot_with x k before)) before after x (all_answers_wait k (records_left r) (rows_in before)) []
             (m ∙ ap (kept_put k []) a) refl;
         wrote =
             subst (λ (l : List ℕ). Wrote l out out' n)

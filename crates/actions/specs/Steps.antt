@@ -126,9 +126,9 @@ due_kind Csus = poll.a_csus
 due_kind (Update p) = poll.an_update
 
 -- of what a poll answers: nothing is due, or one of them
-abbrev pub kind_of : Option Due → poll.Due
-kind_of None = poll.nothing_due
-kind_of (Some d) = due_kind d
+abbrev pub due_as : Option Due → poll.Due
+due_as None = poll.nothing_due
+due_as (Some d) = due_kind d
 
 -- the rows of an update request are the next that wait
 abbrev pub GoodPicks : Due → ℕ → Slot → List ℕ → Type 0
@@ -144,7 +144,7 @@ GoodPlan None k x memory = Unit {0}
 GoodPlan (Some d) k x memory = GoodPicks d k x memory
 
 pub record Plans (d : poll.Due) (k : ℕ) (x : Slot) (memory : List ℕ) (r : Option Due) : Type 0 where
-  pub which : kind_of r ≡ d
+  pub which : due_as r ≡ d
   pub rows : GoodPlan r k x memory
 
 -- what is due is written, with what follows for slot k's part of the memory

@@ -10,7 +10,7 @@ ghost use Rattle.rules.specs.Slots as slots;
 ghost use Rattle.rules.specs.Sent.{new_packet, octets_of};
 ghost use Rattle.memory.specs.Memory.{rows_in, kept_in};
 ghost use Rattle.memory.specs.Marks.{picks_of};
-ghost use Rattle.records.specs.Views.{records_in};
+ghost use Rattle.records.specs.Views.{records_left};
 ghost use Rattle.slots.specs.State.{settings_of, slot_of, rule_of, ca_in};
 ghost use Rattle.writer.specs.Write.{Wrote};
 ghost use Rattle.actions.specs.Parts.{slot_with, Leaves, Acts};
@@ -99,7 +99,7 @@ fn flags_of(l: Link) -> CaFlags
 
 // The slot once its summaries were taken in: its link moved, and the requests that found no room.
 fn taken_in(memory: &mut Storage, k: SlotIndex, records: Records, x: Slot, l: Link) -> Slot
-    ensures { Leaves k.at (taking_in l (rows_in memory.old) (records_in records.entry) (slot_with x k.at memory.old))
+    ensures { Leaves k.at (taking_in l (rows_in memory.old) (records_left records.entry) (slot_with x k.at memory.old))
         (rows_in memory.old) memory.old memory.new result }
 {
     let missed = summaries::take_all(memory, k, records, x.missed);
@@ -159,7 +159,7 @@ fn answer(
     out: &mut [u8],
 ) -> Acted
     requires { (284 ≤ length out.old) × (answers (rule_of rule) ≡ true) }
-    ensures { (sender : List ℕ) → let c = ca_packet_by head (records_in records.entry) sender in
+    ensures { (sender : List ℕ) → let c = ca_packet_by head (records_left records.entry) sender in
         Acts k.at (rules.ca_slot (rule_of rule) (settings_of s) time (rows_in memory.old) c (slot_with x k.at memory.old))
         (rows_in memory.old) (octets_of (rules.ca_sent_by (rule_of rule) (settings_of s) (rows_in memory.old) c
         (slot_with x k.at memory.old))) memory.old memory.new out.old out.new result }
@@ -187,7 +187,7 @@ fn repeat(memory: &Storage, k: SlotIndex, time: u32, x: Slot, out: &mut [u8]) ->
 // The master drops its kept CA on entering Update.
 fn done(memory: &mut Storage, head: CaHead, records: Records, k: SlotIndex, x: Slot) -> Slot
     ensures { (sender : List ℕ) → Leaves k.at (slots.completed (slots.with_kept [] (rules.taking links.master_done
-        (rows_in memory.old) (ca_packet_by head (records_in records.entry) sender) (slot_with x k.at memory.old))))
+        (rows_in memory.old) (ca_packet_by head (records_left records.entry) sender) (slot_with x k.at memory.old))))
         (rows_in memory.old) memory.old memory.new result }
 {
     let l = alignment::ca_move(CaRule::MasterDone, head, x.link.more, x.link);
@@ -210,7 +210,7 @@ pub fn take_ca(
 ) -> Acted
     requires { 284 ≤ length out.old }
     ensures { (sender : List ℕ) → TakesCa (rule_of rule) k.at time (settings_of s)
-        (ca_packet_by head (records_in records.entry) sender) x memory.old memory.new out.old out.new result }
+        (ca_packet_by head (records_left records.entry) sender) x memory.old memory.new out.old out.new result }
 {
     match rule {
         CaRule::Refuse | CaRule::Ignore => parts::silent(x),

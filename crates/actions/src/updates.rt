@@ -1,7 +1,7 @@
 // Document 01, 'Updates': a CSU Request and a CSUS taken.
 ghost use Rattle.std.specs.Prelude.{◌≤◌, length};
 ghost use Rattle.memory.specs.Memory.{is_marked};
-ghost use Rattle.records.specs.Views.{records_in};
+ghost use Rattle.records.specs.Views.{records_left};
 ghost use Rattle.slots.specs.State.{settings_of};
 ghost use Rattle.actions.specs.Steps.{TakesRequest, TakesCsus};
 
@@ -25,7 +25,7 @@ pub fn take_request(
     out: &mut [u8],
 ) -> usize
     requires { 284 ≤ length out.old }
-    ensures { TakesRequest (is_marked live) k.at (settings_of s) (records_in records.entry) slots.old slots.new
+    ensures { TakesRequest (is_marked live) k.at (settings_of s) (records_left records.entry) slots.old slots.new
         memory.old memory.new out.old out.new result }
 {
     let peer = table::peer_at(slots, k);
@@ -45,7 +45,7 @@ pub fn take_csus(
     out: &mut [u8],
 ) -> usize
     requires { 284 ≤ length out.old }
-    ensures { TakesCsus k.at (settings_of s) (records_in records.entry) slots.now memory.old memory.new
+    ensures { TakesCsus k.at (settings_of s) (records_left records.entry) slots.now memory.old memory.new
         out.old out.new result }
 {
     let peer = table::peer_at(slots, k);

@@ -16,7 +16,7 @@ use Rattle.rules.specs.Updates.{hops_most, value, stepped, changed_row, stored, 
 use Rattle.std.specs.Prelude.{Option, Some, None, MatchOption}
 use Rattle.std.proofs.lemmas.Option.{none-some}
 use Rattle.memory.specs.Memory.{value_at, is_marked, row_in, rows_in, memory_of, with_rows}
-use Rattle.memory.specs.Search.{place_of, first_from, with_row, revalued}
+use Rattle.memory.specs.Search.{place_found, first_from, with_row, revalued}
 use Rattle.memory.specs.Marks.{changed_at}
 use Rattle.memory.specs.Entries.{received, rows_as, put_rows}
 use Rattle.memory.proofs.SearchLaws.{find_first}
@@ -54,24 +54,24 @@ module _ (e : Entry) (s : List ℕ) where
 -- it changes; where none was found, no octet does
 abbrev pub Changes : Option (Index 64) → (Row → Row) → List ℕ → List ℕ → Type 0
 Changes found f s t =
-    ((e : Entry) → place_of found ≡ first_from (holds e) 0 (rows_in s) → memory_of t ≡ rows_as (change (holds e) f) s) × (found ≡ None → t ≡ s)
+    ((e : Entry) → place_found found ≡ first_from (holds e) 0 (rows_in s) → memory_of t ≡ rows_as (change (holds e) f) s) × (found ≡ None → t ≡ s)
 
-no_place : (found : Option (Index 64)) → place_of found ≡ None → found ≡ None
+no_place : (found : Option (Index 64)) → place_found found ≡ None → found ≡ None
 no_place None e = refl
 no_place (Some i) e = cc
 
 module _ (found : Option (Index 64)) (s : List ℕ) (f : Row → Row) where
   pub found_marked : (i : Index 64) (t : List ℕ) → found ≡ Some i → memory_of t ≡ changed_at f i.at s → Changes found f s t
-  found_marked i t a m = (λ e g. entry_marked e s i.at (sym g ∙ ap place_of a) f t m, λ n. absurd (none-some i (sym n ∙ a)))
+  found_marked i t a m = (λ e g. entry_marked e s i.at (sym g ∙ ap place_found a) f t m, λ n. absurd (none-some i (sym n ∙ a)))
 
   pub found_changed : (i : Index 64) (t : List ℕ) → found ≡ Some i → memory_of t ≡ with_row s i.at (f (row_in s i.at)) → Changes found f s t
   found_changed i t a m = found_marked i t a (as_changed f s t i.at i.below m)
 
   pub found_absent : found ≡ None → Changes found f s s
-  found_absent a = (λ e g. entry_absent e s (sym g ∙ ap place_of a) f, λ n. refl)
+  found_absent a = (λ e g. entry_absent e s (sym g ∙ ap place_found a) f, λ n. refl)
 
   -- the row of an entry that was looked for
-  pub entry_by : (e : Entry) (t : List ℕ) → place_of found ≡ first_from (holds e) 0 (rows_in s) → Changes found f s t
+  pub entry_by : (e : Entry) (t : List ℕ) → place_found found ≡ first_from (holds e) 0 (rows_in s) → Changes found f s t
       → (memory_of t ≡ rows_as (change (holds e) f) s) × (has (holds e) (rows_in s) ≡ false → t ≡ s)
   entry_by e t g c = (c.0 e g, λ h. c.1 (no_place found (g ∙ not_found (holds e) (rows_in s) h)))
 
@@ -117,7 +117,7 @@ module _ (e : Entry) (s : List ℕ) where
   up_none n none = sym (ap (up_to_date n) (none_entry none))
 
   -- the answer by the row found
-  pub up_by : (n : CsaNumber) (b : Bool) (found : Option (Index 64)) → place_of found ≡ first_from (holds e) 0 (rows_in s)
+  pub up_by : (n : CsaNumber) (b : Bool) (found : Option (Index 64)) → place_found found ≡ first_from (holds e) 0 (rows_in s)
       → MatchOption found (b ≡ false) (λ i. b ≡ not (newer n (value_at s i.at).number)) → b ≡ up_to_date n (entry_row e (rows_in s))
   up_by n b None p m = m ∙ up_none n (sym p)
   up_by n b (Some i) p m = m ∙ up_found n (value_at s i.at).number (newer n (value_at s i.at).number) i.at (sym p) refl refl

@@ -9,7 +9,7 @@ use Rattle.std.specs.Prelude.{Some, None}
 use Rattle.std.specs.Prelude.{Option}
 use Rattle.protocol.specs.declared.Index.{Index}
 use Rattle.memory.specs.Memory.{rows_in, memory_of, with_rows}
-use Rattle.memory.specs.Search.{place_of, first_from, with_row, Inserts}
+use Rattle.memory.specs.Search.{place_found, first_from, with_row, Inserts}
 use Rattle.memory.proofs.SearchLaws.{First, found, none_found, has_first, change_first}
 use Rattle.memory.proofs.RowPlaces.{rows_length}
 
@@ -20,7 +20,7 @@ pub all_rows : (s : List ℕ) → memory_of s ≡ with_rows (rows_in s) (memory_
 unfolding memory_of
 all_rows s = refl
 
-pub insert_stored : (s t : List ℕ) (a : Option (Index 64)) (i : ℕ) (e : Entry) (v : Value) (m : ℕ → Bool) → place_of a ≡ first_from is_free 0 (rows_in s)
+pub insert_stored : (s t : List ℕ) (a : Option (Index 64)) (i : ℕ) (e : Entry) (v : Value) (m : ℕ → Bool) → place_found a ≡ first_from is_free 0 (rows_in s)
     → first_from is_free 0 (rows_in s) ≡ Some i → memory_of t ≡ with_row s i (used e v m) → Inserts (used e v m) s t a
 insert_stored s t a i e v m is at put =
     let f : First is_free (rows_in s) i = found is_free (rows_in s) i at in

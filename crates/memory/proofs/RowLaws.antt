@@ -7,7 +7,7 @@ use Rattle.rules.specs.Server.{Entry, Row, free, used, is_used, holds, row_at}
 use Rattle.std.specs.Prelude.{Option, Some, None, is_some}
 use Rattle.protocol.specs.declared.Index.{Index}
 use Rattle.memory.specs.Memory.{row_in, rows_in}
-use Rattle.memory.specs.Search.{place_of, first_from}
+use Rattle.memory.specs.Search.{place_found, first_from}
 use Rattle.memory.proofs.SearchLaws.{First, found, none_found, finds_none, has_first, change_first}
 use Rattle.memory.proofs.RowPlaces.{row_get, used_row, used_row_lem}
 use Rattle.memory.proofs.RowInsert.{found_below}
@@ -37,7 +37,7 @@ module _ (p : Row → Bool) (rows : List Row) where
   not_found h = finds_none p rows 0 h
 
 -- whether something is found
-pub has_place : (p : Row → Bool) (rows : List Row) (o : Option (Index 64)) → place_of o ≡ first_from p 0 rows → is_some o ≡ has p rows
+pub has_place : (p : Row → Bool) (rows : List Row) (o : Option (Index 64)) → place_found o ≡ first_from p 0 rows → is_some o ≡ has p rows
 has_place p rows (Some i) e = sym (has_found p rows i.at (sym e))
 has_place p rows None e = sym (has_none p rows (sym e))
 

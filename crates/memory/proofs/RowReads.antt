@@ -15,7 +15,7 @@ use Rattle.std.specs.Prelude.{Option, Some, None}
 use Rattle.protocol.specs.declared.Index.{Index}
 use Rattle.memory.specs.Layout.{lengths_at, tags_at, memory_size, length_place}
 use Rattle.memory.specs.Memory.{entry_named, tag_of, row_in, rows_in}
-use Rattle.memory.specs.Search.{FirstOctet, FirstIndex, place_of, first_from}
+use Rattle.memory.specs.Search.{FirstOctet, FirstIndex, place_found, first_from}
 use Rattle.memory.proofs.SearchLaws.{first_hit, first_miss, first_none, passed_by, count_step, count_none}
 use Rattle.memory.proofs.RowPlaces.{rows_length, row_get, is_used_lem, octet_free, octet_used, other_tag}
 
@@ -80,7 +80,7 @@ module _ (s : List ℕ) (c : ℕ) where
         let n : length (rows_in s) ≡ rows_most = rows_length s in
         sym (none_free ∙ first_none is_free (rows_in s) c (omega arith))
 
-pub free_place : (s : List ℕ) (o : Option (Index 64)) → FirstIndex s lengths_at 0 o → place_of o ≡ first_from is_free 0 (rows_in s)
+pub free_place : (s : List ℕ) (o : Option (Index 64)) → FirstIndex s lengths_at 0 o → place_found o ≡ first_from is_free 0 (rows_in s)
 free_place s (Some i) f = free_hit s i.at f i.below
 free_place s None f = free_miss s 64 (record { there = λ h. absurd (omega arith); none_before = λ j h e. absurd (f j h e) }) (omega arith)
 

@@ -50,9 +50,9 @@ first_from p i [] = None
 first_from p i (r ∷ rows) = pick (p r) (Some i) (first_from p (suc i) rows)
 
 -- the place of a row that was found
-abbrev pub place_of : Option (Index 64) → Option ℕ
-place_of (Some i) = Some i.at
-place_of None = None
+abbrev pub place_found : Option (Index 64) → Option ℕ
+place_found (Some i) = Some i.at
+place_found None = None
 
 -- ---- rows put
 -- the memory with another row i
@@ -89,7 +89,7 @@ row_put i name number payload remaining marks s =
 -- the lowest free row is filled; without one, no octet changes
 pub record Inserts (r : Row) (before after : List ℕ) (a : Option (Index 64)) : Type 0 where
   pub rows : memory_of after ≡ with_rows (filled r (rows_in before)) (memory_of before)
-  pub answer : place_of a ≡ first_from is_free 0 (rows_in before)
+  pub answer : place_found a ≡ first_from is_free 0 (rows_in before)
   pub kept : has is_free (rows_in before) ≡ false → after ≡ before
 
 -- ---- rows to free

@@ -8,7 +8,7 @@ ghost use Rattle.rules.specs.Requests.{up_to_date};
 ghost use Rattle.rules.specs.Updates.{value, stepped, changed_row, purged_row, set_rows, withdraw_rows, purge_rows, stored, waits_again, rows_by};
 ghost use Rattle.rules.specs.Updates.{replied, answer_waits};
 ghost use Rattle.memory.specs.Memory.{entry_named, is_marked, row_in, rows_in, memory_of};
-ghost use Rattle.memory.specs.Search.{place_of, with_row, first_from};
+ghost use Rattle.memory.specs.Search.{place_found, with_row, first_from};
 ghost use Rattle.memory.specs.Entries.{received, rows_as, put_rows};
 
 use crate::names::EntryName;
@@ -20,7 +20,7 @@ use protocol::{CsaNumber, SlotIndex};
 // ---- records of a CSU Request from slot k
 // In the row that was found for the entry, or in the lowest free one.
 fn put_entry(memory: &mut Storage, found: Option<RowIndex>, name: EntryName, v: Held)
-    requires { place_of found ≡ first_from (holds (entry_named name.octets.now)) 0 (rows_in memory.old) }
+    requires { place_found found ≡ first_from (holds (entry_named name.octets.now)) 0 (rows_in memory.old) }
     ensures { memory_of memory.new ≡ rows_as (put_rows (entry_named name.entry.octets.now)
         (value v.entry.number v.entry.payload.octets.now v.entry.remaining) (is_marked v.entry.marks)) memory.old }
 {
@@ -43,7 +43,7 @@ pub fn store_record(
     payload: Payload,
     hops: u16,
 )
-    requires { place_of found ≡ first_from (holds (entry_named name.octets.now)) 0 (rows_in memory.old) }
+    requires { place_found found ≡ first_from (holds (entry_named name.octets.now)) 0 (rows_in memory.old) }
     ensures { memory_of memory.new ≡ rows_as (rows_by stored (is_marked live) k.at
         (received hops number (entry_named name.entry.octets.now) payload.entry.octets.now)) memory.old }
 {
@@ -62,7 +62,7 @@ pub fn store_record(
 // that takes the call as a closure would state the closure's contract beside its own, and be no shorter.
 // A record equal to what is held: the row that was found waits for slot k no more.
 pub fn equal_record(memory: &mut Storage, k: SlotIndex, found: Option<RowIndex>)
-    ensures memory_after { (e : Entry) → place_of found ≡ first_from (holds e) 0 (rows_in memory.old) → memory_of memory.new
+    ensures memory_after { (e : Entry) → place_found found ≡ first_from (holds e) 0 (rows_in memory.old) → memory_of memory.new
         ≡ rows_as (tables.change (holds e) (unmarked k.at)) memory.old }
     ensures kept { found ≡ None → memory.new ≡ memory.old }
 {
@@ -73,7 +73,7 @@ pub fn equal_record(memory: &mut Storage, k: SlotIndex, found: Option<RowIndex>)
 
 // A record older than what is held: the row that was found waits for slot k again.
 pub fn older_record(memory: &mut Storage, k: SlotIndex, found: Option<RowIndex>)
-    ensures memory_after { (e : Entry) → place_of found ≡ first_from (holds e) 0 (rows_in memory.old) → memory_of memory.new
+    ensures memory_after { (e : Entry) → place_found found ≡ first_from (holds e) 0 (rows_in memory.old) → memory_of memory.new
         ≡ rows_as (tables.change (holds e) (waits_again k.at)) memory.old }
     ensures kept { found ≡ None → memory.new ≡ memory.old }
 {
@@ -97,7 +97,7 @@ pub fn reply_record(memory: &mut Storage, k: SlotIndex, name: EntryName, number:
 // ---- a record of a CSUS from slot k
 // It was answered: the row that was found waits for slot k, if it was sent and hops remain.
 pub fn answer_record(memory: &mut Storage, k: SlotIndex, found: Option<RowIndex>, number: CsaNumber)
-    ensures memory_after { (e : Entry) → place_of found ≡ first_from (holds e) 0 (rows_in memory.old) → memory_of memory.new
+    ensures memory_after { (e : Entry) → place_found found ≡ first_from (holds e) 0 (rows_in memory.old) → memory_of memory.new
         ≡ rows_as (tables.change (holds e) (answer_waits k.at number)) memory.old }
     ensures kept { found ≡ None → memory.new ≡ memory.old }
 {
@@ -148,7 +148,7 @@ pub fn set_entry(
     name: EntryName,
     payload: Payload,
 )
-    requires { place_of found ≡ first_from (holds (entry_named name.octets.now)) 0 (rows_in memory.old) }
+    requires { place_found found ≡ first_from (holds (entry_named name.octets.now)) 0 (rows_in memory.old) }
     ensures { memory_of memory.new ≡ rows_as (set_rows (is_marked live) (entry_named name.entry.octets.now)
         payload.entry.octets.now) memory.old }
 {
@@ -168,7 +168,7 @@ pub fn set_entry(
 
 // The payload becomes empty; the row is kept.
 pub fn withdraw_entry(memory: &mut Storage, live: u8, found: Option<RowIndex>)
-    ensures memory_after { (e : Entry) → place_of found ≡ first_from (holds e) 0 (rows_in memory.old) → memory_of memory.new
+    ensures memory_after { (e : Entry) → place_found found ≡ first_from (holds e) 0 (rows_in memory.old) → memory_of memory.new
         ≡ rows_as (withdraw_rows (is_marked live) e) memory.old }
     ensures kept { found ≡ None → memory.new ≡ memory.old }
 {
@@ -179,7 +179,7 @@ pub fn withdraw_entry(memory: &mut Storage, live: u8, found: Option<RowIndex>)
 
 // The entry gets the last number, and no payload.
 pub fn purge_entry(memory: &mut Storage, live: u8, found: Option<RowIndex>)
-    ensures memory_after { (e : Entry) → place_of found ≡ first_from (holds e) 0 (rows_in memory.old) → memory_of memory.new
+    ensures memory_after { (e : Entry) → place_found found ≡ first_from (holds e) 0 (rows_in memory.old) → memory_of memory.new
         ≡ rows_as (purge_rows (is_marked live) e) memory.old }
     ensures kept { found ≡ None → memory.new ≡ memory.old }
 {

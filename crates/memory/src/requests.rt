@@ -6,7 +6,7 @@ ghost use Rattle.rules.specs.Requests as rules;
 ghost use Rattle.memory.specs.Layout.{memory_size, list_place};
 ghost use Rattle.memory.specs.Memory.{entry_named, request_in, requests_in, memory_of, requests_put, requests_of};
 ghost use Rattle.memory.specs.Lists as lists;
-ghost use Rattle.memory.specs.Search.{place_of};
+ghost use Rattle.memory.specs.Search.{place_found};
 ghost use Rattle.memory.specs.Lists.{rooms_in, no_request, Listed, Joins};
 
 use crate::layout::{LIST_SIZE, NUMBER_PLACE, REQUEST_SIZE, REQUESTS, REQUESTS_AT};
@@ -67,7 +67,7 @@ pub fn name_at(memory: &Storage, k: SlotIndex, i: RequestIndex) -> &[u8]
 fn find(memory: &Storage, k: SlotIndex, n: usize, e: Named) -> Option<RequestIndex>
     requires k_bound { n ≡ length (requests_in memory.now k.at) }
     requires in_bounds { n ≤ 64 }
-    ensures { place_of result ≡ position (rules.asks (entry_named e.entry.name.octets.now)) (requests_in memory.now k.at) }
+    ensures { place_found result ≡ position (rules.asks (entry_named e.entry.name.octets.now)) (requests_in memory.now k.at) }
 {
     let from = tags::first_index(memory, room::tag_place(k, Index { at: 0 }), e.tag)?;
     for i in from.at..n {

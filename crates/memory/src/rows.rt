@@ -7,7 +7,7 @@ ghost use Rattle.laws.specs.Tables.{has};
 ghost use Rattle.rules.specs.Server.{is_free, is_used, holds, rows_used};
 ghost use Rattle.memory.specs.Layout.{lengths_at};
 ghost use Rattle.memory.specs.Memory.{entry_named, tag_of, key_room, row_name, row_entry, bits_at, payload_length, value_at, row_in, rows_in};
-ghost use Rattle.memory.specs.Search.{place_of, first_from};
+ghost use Rattle.memory.specs.Search.{place_found, first_from};
 
 use crate::layout::{ID, KEY, LENGTHS_AT, NAME_PLACE, PAYLOAD, ROW_SIZE, ROWS, TAGS_AT, TOPS_AT};
 use crate::{Storage, names, tags};
@@ -112,7 +112,7 @@ fn row_is(memory: &Storage, i: RowIndex, name: &[u8], t: u8) -> bool
 // Row by row from `from` on.
 fn find_from(memory: &Storage, name: &[u8], t: u8, from: usize) -> Option<RowIndex>
     requires { (4 < length name.now) × (t ≡ tag_of name.now) }
-    ensures { place_of result ≡ first_from (holds (entry_named name.now)) from (drop from (rows_in memory.now)) }
+    ensures { place_found result ≡ first_from (holds (entry_named name.now)) from (drop from (rows_in memory.now)) }
 {
     for at in from..ROWS {
         let i = Index { at };
@@ -126,7 +126,7 @@ fn find_from(memory: &Storage, name: &[u8], t: u8, from: usize) -> Option<RowInd
 // The row of an entry: from the first row that has its tag on.
 pub fn find(memory: &Storage, name: &[u8]) -> Option<RowIndex>
     requires { 4 < length name.now }
-    ensures { place_of result ≡ first_from (holds (entry_named name.now)) 0 (rows_in memory.now) }
+    ensures { place_found result ≡ first_from (holds (entry_named name.now)) 0 (rows_in memory.now) }
 {
     let t = tags::tag_of(name);
     let from = tags::first_index(memory, TAGS_AT, t)?;
@@ -134,7 +134,7 @@ pub fn find(memory: &Storage, name: &[u8]) -> Option<RowIndex>
 }
 
 pub fn free_row(memory: &Storage) -> Option<RowIndex>
-    ensures { place_of result ≡ first_from is_free 0 (rows_in memory.now) }
+    ensures { place_found result ≡ first_from is_free 0 (rows_in memory.now) }
 {
     tags::first_index(memory, LENGTHS_AT, 0)
 }

@@ -20,7 +20,7 @@ use Rattle.wire.specs.Views.{records_of}
 use Rattle.wire.proofs.Records.{next_record}
 use Rattle.records.specs.declared.packet.Records.{Records}
 use Rattle.records.specs.Places.{entry_record}
-use Rattle.records.specs.Views.{records_in}
+use Rattle.records.specs.Views.{records_left}
 use Rattle.records.specs.Walks.{Fits, Walks}
 
 -- ---- as many records as are left
@@ -32,7 +32,7 @@ records_length w p (suc n) at = ap suc (records_length w p n _)
 pub left_records : (p : List ℕ) (c : Cursor) → length (records_of p c) ≡ c.left
 left_records p c = records_length id_length p c.left c.at
 
-pub few_records : (r : Records) → length (records_in r) ≤ 4
+pub few_records : (r : Records) → length (records_left r) ≤ 4
 few_records r = let e = left_records r.packet.now r.cursor in let f = r.walks.few in omega arith
 
 -- ---- a step

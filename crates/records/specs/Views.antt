@@ -7,8 +7,8 @@ use Rattle.wire.specs.Views.{records_of}
 use Rattle.records.specs.declared.packet.Records.{Records}
 use Rattle.records.specs.declared.view.RecordView.{RecordView}
 
-abbrev pub csa_of : RecordView → CsaRecord
-csa_of v = record {
+abbrev pub record_shown : RecordView → CsaRecord
+record_shown v = record {
   hops = v.hops;
   null = v.null;
   number = v.number;
@@ -18,5 +18,5 @@ csa_of v = record {
 }
 
 -- the records that the cursor has before it
-abbrev pub records_in : Records → List CsaRecord
-records_in r = records_of r.packet.now r.cursor
+abbrev pub records_left : Records → List CsaRecord
+records_left r = records_of r.packet.now r.cursor

@@ -17,13 +17,13 @@ pub struct Records<'a> {
 
 impl<'a> Iterator for Records<'a> {
     ghost use Rattle.std.specs.Iterator.{YieldsFirstBy, item_count};
-    ghost use Rattle.records.specs.Views.{csa_of, records_in};
+    ghost use Rattle.records.specs.Views.{record_shown, records_left};
 
     type Item = RecordView<'a>;
 
-    ghost next_gives = { YieldsFirstBy csa_of records_in };
+    ghost next_gives = { YieldsFirstBy record_shown records_left };
 
-    ghost remaining = { item_count records_in };
+    ghost remaining = { item_count records_left };
 
     fn next(&mut self) -> Option<RecordView<'a>> {
         let Cursor { at, left } = self.cursor;

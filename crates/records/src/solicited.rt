@@ -4,10 +4,10 @@ ghost use Rattle.rules.specs.Server.{holds};
 ghost use Rattle.rules.specs.Requests.{entry_of};
 ghost use Rattle.rules.specs.Updates as rules;
 ghost use Rattle.memory.specs.Memory.{rows_in, memory_of};
-ghost use Rattle.memory.specs.Search.{place_of, first_from};
+ghost use Rattle.memory.specs.Search.{place_found, first_from};
 ghost use Rattle.memory.specs.Entries.{rows_as};
 ghost use Rattle.records.specs.Walks.{answer_by, Solicits};
-ghost use Rattle.records.specs.Views.{csa_of, records_in};
+ghost use Rattle.records.specs.Views.{record_shown, records_left};
 ghost use Rattle.records.specs.Places.{Puts};
 
 use crate::held;
@@ -21,7 +21,7 @@ use writer::write::put_record;
 // N set, the asked number, hop count 1. Beside `put_summary`, since one function for both is `put_record`, which each calls once.
 fn put_null(out: &mut [u8], at: usize, v: RecordView) -> usize
     requires { at + 64 ≤ length out.old }
-    ensures { Puts 64 (rules.null_record (csa_of v.entry) ∷ []) at out.old out.new result }
+    ensures { Puts 64 (rules.null_record (record_shown v.entry) ∷ []) at out.old out.new result }
 {
     let none = [0u8; 0];
     put_record(out, at, 1, true, v.number, v.name.octets, &none)
@@ -30,7 +30,7 @@ fn put_null(out: &mut [u8], at: usize, v: RecordView) -> usize
 // By row i: as it is held, unless a greater number is asked for.
 fn solicit_row(memory: &Storage, i: RowIndex, v: RecordView, out: &mut [u8], at: usize) -> usize
     requires { at + 64 ≤ length out.old }
-    ensures { Puts 64 (answer_by (csa_of v.entry) memory.now i.at ∷ []) at out.old out.new result }
+    ensures { Puts 64 (answer_by (record_shown v.entry) memory.now i.at ∷ []) at out.old out.new result }
 {
     if numbers::newer(v.number, rows::number_of(memory, i)) {
         return put_null(out, at, v);
@@ -47,8 +47,8 @@ fn solicit_found(
     at: usize,
 ) -> usize
     requires room { at + 64 ≤ length out.old }
-    requires found_for { place_of found ≡ first_from (holds (entry_of (csa_of v))) 0 (rows_in memory.now) }
-    ensures { Puts 64 (rules.solicited (rows_in memory.now) (csa_of v.entry) ∷ []) at out.old out.new result }
+    requires found_for { place_found found ≡ first_from (holds (entry_of (record_shown v))) 0 (rows_in memory.now) }
+    ensures { Puts 64 (rules.solicited (rows_in memory.now) (record_shown v.entry) ∷ []) at out.old out.new result }
 {
     match found {
         Some(i) => solicit_row(memory, i, v, out, at),
@@ -65,7 +65,7 @@ fn solicit_one(
     at: usize,
 ) -> usize
     requires { at + 64 ≤ length out.old }
-    ensures { Solicits k.at (csa_of v.entry) memory.old memory.new at out.old out.new result }
+    ensures { Solicits k.at (record_shown v.entry) memory.old memory.new at out.old out.new result }
 {
     let found = rows::find(memory, v.name.octets);
     let next = solicit_found(memory, found, v, out, at);
@@ -76,9 +76,9 @@ fn solicit_one(
 // A record for each, in order, from octet 28 on: the place behind them.
 pub fn solicit_all(memory: &mut Storage, k: SlotIndex, records: Records, out: &mut [u8]) -> usize
     requires { 284 ≤ length out.old }
-    ensures puts { Puts 64 (rules.all_solicited (rows_in memory.old) (records_in records.entry)) 28 out.old
+    ensures puts { Puts 64 (rules.all_solicited (rows_in memory.old) (records_left records.entry)) 28 out.old
         out.new result }
-    ensures waits { memory_of memory.new ≡ rows_as (rules.all_answers_wait k.at (records_in records.entry)) memory.old }
+    ensures waits { memory_of memory.new ≡ rows_as (rules.all_answers_wait k.at (records_left records.entry)) memory.old }
 {
     let mut to: usize = 28;
     for v in records {

@@ -5,7 +5,7 @@ ghost use Rattle.protocol.specs.Numbers.{newer};
 ghost use Rattle.laws.specs.Tables.{has};
 ghost use Rattle.rules.specs.Server.{is_free, holds};
 ghost use Rattle.rules.specs.Requests.{entry_of};
-ghost use Rattle.memory.specs.Search.{place_of, first_from};
+ghost use Rattle.memory.specs.Search.{place_found, first_from};
 ghost use Rattle.rules.specs.Rows as rules;
 ghost use Rattle.rules.specs.Updates.{purge_absent, stored, full, equal, older, update_rule};
 ghost use Rattle.memory.specs.Memory.{rows_in};
@@ -60,7 +60,7 @@ pub fn update_rule(
     number: CsaNumber,
     found: Option<RowIndex>,
 ) -> UpdateRule
-    ensures { (v : CsaRecord) → null ≡ v.null → number ≡ v.number → place_of found
+    ensures { (v : CsaRecord) → null ≡ v.null → number ≡ v.number → place_found found
         ≡ first_from (holds (entry_of v)) 0 (rows_in memory.now)
         → update_rule_of result ≡ update_rule v (rows_in memory.now) }
 {

@@ -2,7 +2,7 @@
 ghost use Rattle.std.specs.Prelude.{◌+◌, ◌≤◌, false, [], ◌∷◌, length};
 ghost use Rattle.memory.specs.Memory.{entry_named};
 ghost use Rattle.records.specs.Walks.{TakesAll};
-ghost use Rattle.records.specs.Views.{records_in};
+ghost use Rattle.records.specs.Views.{records_left};
 ghost use Rattle.records.specs.Places.{entry_record, Puts};
 
 use crate::packet::Records;
@@ -12,7 +12,7 @@ use writer::write::put_record;
 
 // The records join slot k's request list, each if its entry is absent or newer: how many found no room.
 pub fn take_all(memory: &mut Storage, k: SlotIndex, records: Records, missed: u16) -> u16
-    ensures { TakesAll k.at (records_in records.entry) missed memory.old memory.new result }
+    ensures { TakesAll k.at (records_left records.entry) missed memory.old memory.new result }
 {
     let mut n = missed;
     for v in records {

@@ -5,10 +5,10 @@ ghost use Rattle.rules.specs.Server.{holds};
 ghost use Rattle.rules.specs.Requests.{entry_of};
 ghost use Rattle.rules.specs.Updates as rules;
 ghost use Rattle.memory.specs.Memory.{is_marked, rows_in, memory_of, requests_put, requests_of};
-ghost use Rattle.memory.specs.Search.{place_of, first_from};
+ghost use Rattle.memory.specs.Search.{place_found, first_from};
 ghost use Rattle.memory.specs.Entries.{rows_as};
 ghost use Rattle.records.specs.Walks.{update_rule_of, updated_now, UpdatesOne, Updates, UpdatesAll};
-ghost use Rattle.records.specs.Views.{csa_of, records_in};
+ghost use Rattle.records.specs.Views.{record_shown, records_left};
 ghost use Rattle.records.specs.Places.{Adds, Places, reply_of};
 
 use crate::packet::Records;
@@ -30,8 +30,8 @@ fn rows_by(
     k: SlotIndex,
     v: RecordView,
 )
-    requires { place_of found ≡ first_from (holds (entry_of (csa_of v))) 0 (rows_in memory.old) }
-    ensures { memory_of memory.new ≡ rows_as (rules.rows_by (update_rule_of rule) (is_marked live) k.at (csa_of v.entry))
+    requires { place_found found ≡ first_from (holds (entry_of (record_shown v))) 0 (rows_in memory.old) }
+    ensures { memory_of memory.new ≡ rows_as (rules.rows_by (update_rule_of rule) (is_marked live) k.at (record_shown v.entry))
         memory.old }
 {
     match rule {
@@ -46,7 +46,7 @@ fn rows_by(
 
 // What a record does to slot k's requests.
 fn requests_by(memory: &mut Storage, rule: UpdateRule, k: SlotIndex, v: RecordView)
-    ensures { memory_of memory.new ≡ requests_put k.at (rules.requests_by (update_rule_of rule) (csa_of v.entry)
+    ensures { memory_of memory.new ≡ requests_put k.at (rules.requests_by (update_rule_of rule) (record_shown v.entry)
         (requests_of (memory_of memory.old) k.at)) (memory_of memory.old) }
 {
     match rule {
@@ -60,7 +60,7 @@ fn requests_by(memory: &mut Storage, rule: UpdateRule, k: SlotIndex, v: RecordVi
 
 // A record from slot k: the rule that it took.
 fn apply_record(memory: &mut Storage, live: u8, k: SlotIndex, v: RecordView) -> UpdateRule
-    ensures { UpdatesOne (is_marked live) k.at (csa_of v.entry) memory.old memory.new (update_rule_of result) }
+    ensures { UpdatesOne (is_marked live) k.at (record_shown v.entry) memory.old memory.new (update_rule_of result) }
 {
     let found = rows::find(memory, v.name.octets);
     let rule = standing::update_rule(memory, v.null, v.number, found);
@@ -78,7 +78,7 @@ fn is_acknowledged(rule: UpdateRule) -> bool
 // One summary more for a record that is acknowledged.
 fn reply_by(rule: UpdateRule, v: RecordView, out: &mut [u8], to: Placed) -> Placed
     requires { (to.next + 64 ≤ length out.old) × (to.count < 4) }
-    ensures { Adds 32 (reply_of (update_rule_of rule) (csa_of v.entry)) to out.old out.new result }
+    ensures { Adds 32 (reply_of (update_rule_of rule) (record_shown v.entry)) to out.old out.new result }
 {
     if is_acknowledged(rule) {
         let next = put_summary(out, to.next, v.number, v.name.octets);
@@ -100,7 +100,7 @@ fn update_one(
     to: Placed,
 ) -> Placed
     requires { (to.next + 64 ≤ length out.old) × (to.count < 4) }
-    ensures { Updates (is_marked live) k.at (csa_of v.entry) memory.old memory.new out.old
+    ensures { Updates (is_marked live) k.at (record_shown v.entry) memory.old memory.new out.old
         out.new to result }
 {
     let rule = apply_record(memory, live, k, v);
@@ -116,8 +116,8 @@ pub fn update_all(
     out: &mut [u8],
 ) -> Placed
     requires { 284 ≤ length out.old }
-    ensures updates_all { UpdatesAll (is_marked live) k.at (records_in records.entry) memory.old memory.new }
-    ensures replies { Places 32 (map summary_of (rules.all_updated (is_marked live) k.at (records_in records.entry)
+    ensures updates_all { UpdatesAll (is_marked live) k.at (records_left records.entry) memory.old memory.new }
+    ensures replies { Places 32 (map summary_of (rules.all_updated (is_marked live) k.at (records_left records.entry)
         (updated_now k.at [] memory.old)).replies) 28 out.old out.new result × (result.count ≤ 4) }
 {
     let mut to = Placed::none(28);

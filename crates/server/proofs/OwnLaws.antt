@@ -22,7 +22,7 @@ use Rattle.rules.specs.Refusals.{own_key_good, own_payload_good, own_entry, row_
 use Rattle.rules.specs.Events as events
 use Rattle.rules.specs.Events.{Event, live_in, code_of, acted, sent_by}
 use Rattle.memory.specs.Memory.{value_at, rows_in, Memory, memory_of, with_rows}
-use Rattle.memory.specs.Search.{place_of, FitsKey, first_from}
+use Rattle.memory.specs.Search.{place_found, FitsKey, first_from}
 use Rattle.memory.specs.Entries.{rows_as}
 use Rattle.std.specs.Prelude.{Option, Some, None, IfOk, ok_or}
 use Rattle.protocol.specs.declared.Index.{Index}
@@ -95,7 +95,7 @@ module _ (s : Server) (m key : List ℕ) where
   own_key h = rw h
 
   pub own_found : own_key_good key ≡ true → (found : Option (Index 64)) (r : Result (Index 64) Failure)
-      → place_of found ≡ first_from (holds (own_entry (settings_of s.settings) key)) 0 (rows_in m) → r ≡ ok_or found NoEntry
+      → place_found found ≡ first_from (holds (own_entry (settings_of s.settings) key)) 0 (rows_in m) → r ≡ ok_or found NoEntry
       → (code_number r ≡ our_code) × IfOk r (λ i. IsOwn (settings_of s.settings) key m i.at)
   own_found good (Some i) r e t = (
     ap code_number t ∙ rw (good, row_found (own_entry (settings_of s.settings) key) m i.at (sym e)),

@@ -26,7 +26,7 @@ use Rattle.wire.specs.declared.record.Cursor.{Cursor}
 use Rattle.wire.specs.declared.read.Head.{Head}
 use Rattle.wire.specs.declared.read.Refusal.{Refusal}
 use Rattle.wire.specs.declared.read.Refusal.TheVariants as refusal
-use Rattle.wire.specs.Views.{records_of, message_of, refusal_of, reading_of, start_of, Reads}
+use Rattle.wire.specs.Views.{records_of, message_of, refused_as, reading_of, start_of, Reads}
 use Rattle.records.specs.Walks.{Fits, Walks}
 use Rattle.slots.specs.declared.state.Slot.{Slot}
 use Rattle.table.specs.Slots.{slot_in}
@@ -101,7 +101,7 @@ reaches p r h o t e =
 
 -- ---- codes 5 to 9
 pub not_malformed : (r : Refusal) → ((at : ℕ) → r ≡ refusal.Malformed at → ⊥) → (s : rules.Settings) (x : rules.Slot)
-    → eqb (reading_code s x (refusal_of r)) 10 ≡ false
+    → eqb (reading_code s x (refused_as r)) 10 ≡ false
 not_malformed refusal.Length n s x = refl
 not_malformed refusal.Version n s x = refl
 not_malformed refusal.«Type» n s x = refl

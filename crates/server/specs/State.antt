@@ -42,7 +42,7 @@ answer_of s (Ok x) = record { server = x.0; outcome = Ok x.1 }
 answer_of s (Err f) = record { server = s; outcome = Err f }
 
 -- ---- what an event does: the code, the server, its slots and its memory are those of the step, and a refusal leaves all of them as they
--- came, but for the malformed Hello. After an event that counts each word and octet is the program's choice, and every choice has its
+-- came, but for the malformed Hello. After an event that counts each octet of the memory is the program's choice, and every choice has its
 -- meaning in common: `server_of`.
 pub record Steps (e : Event) (s : Server) (slots slots' : List Slot) (before after : List ℕ) (r : Answer) : Type 0 where
   pub code : code_number r.outcome ≡ code_of (server_of s slots before) e

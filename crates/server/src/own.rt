@@ -2,7 +2,7 @@
 ghost use Rattle.std.specs.Prelude.{◌≡◌, ◌&&◌, List, true, ℕ, ltb, leb, length, take, IfOk};
 ghost use Rattle.protocol.specs.Numbers.{spent};
 ghost use Rattle.rules.specs.Refusals.{own_entry};
-ghost use Rattle.memory.specs.Search.{place_of, FitsKey, first_from};
+ghost use Rattle.memory.specs.Search.{place_found, FitsKey, first_from};
 ghost use Rattle.slots.specs.State.{settings_of};
 ghost use Rattle.rules.specs.Events as events;
 ghost use Rattle.rules.specs.Refusals as rules;
@@ -50,7 +50,7 @@ fn fits(octets: &[u8], most: usize) -> bool
 // By the row of the entry, if it has one.
 fn set_code(memory: &Storage, found: Option<RowIndex>) -> Result<(), Failure>
     ensures { (s : declared.Server) (slots : List Slot) (key payload : List ℕ) → rules.own_key_good key ≡ true → rules.own_payload_good payload
-        ≡ true → place_of found
+        ≡ true → place_found found
         ≡ first_from (holds (own_entry (settings_of s.settings) key)) 0 (rows_in memory.now) → code_number result
         ≡ rules.set_code (server_of s slots memory.now) key payload }
 {

@@ -7,9 +7,9 @@ ghost use Rattle.rules.specs.Server as server;
 ghost use Rattle.rules.specs.Refusals as rules;
 ghost use Rattle.rules.specs.Events as events;
 ghost use Rattle.table.specs.Slots.{slot_in};
-ghost use Rattle.wire.specs.Views.{records_of, message_of, refusal_of};
+ghost use Rattle.wire.specs.Views.{records_of, message_of, refused_as};
 ghost use Rattle.slots.specs.Codes.{failure_number};
-ghost use Rattle.records.specs.Views.{records_in};
+ghost use Rattle.records.specs.Views.{records_left};
 ghost use Rattle.slots.specs.State.{settings_of, rule_of};
 ghost use Rattle.actions.specs.Parts.{slot_with};
 ghost use Rattle.actions.specs.Steps.{ca_packet_at};
@@ -43,7 +43,7 @@ impl<'a> Received<'a> {
     // Of any packet but a Hello.
     fn records(self) -> Records<'a>
         requires { rules.is_hello (message_of self.octets.now self.head).body ≡ false }
-        ensures { records_in result ≡ records_of self.entry.octets.now self.entry.head.records }
+        ensures { records_left result ≡ records_of self.entry.octets.now self.entry.head.records }
     {
         Records {
             packet: self.octets,
@@ -224,7 +224,7 @@ fn malformed(
 
 // The code of a packet that is no message.
 fn failure_of(r: Refusal) -> Failure
-    ensures { (s : server.Settings) (x : server.Slot) → rules.reading_code s x (refusal_of r) ≡ failure_number result }
+    ensures { (s : server.Settings) (x : server.Slot) → rules.reading_code s x (refused_as r) ≡ failure_number result }
 {
     match r {
         Refusal::Length => Failure::Length,

@@ -1,7 +1,7 @@
 // The lines of a packet.
 ghost use Rattle.std.specs.Prelude.{◌≡◌, ◌≤◌};
 ghost use Rattle.protocol.specs.Reading as reading;
-ghost use Rattle.wire.specs.Views.{refusal_of};
+ghost use Rattle.wire.specs.Views.{refused_as};
 
 use crate::print;
 use protocol::{CaFlags, Kind};
@@ -11,7 +11,7 @@ use wire::record::Cursor;
 
 // The table's number of a refusal.
 fn refusal_number(r: Refusal) -> u64
-    ensures { result ≡ reading.refusal_of (refusal_of r) }
+    ensures { result ≡ reading.refusal_of (refused_as r) }
 {
     match r {
         Refusal::Length => 5,

@@ -10,7 +10,7 @@ use Rattle.protocol.specs.Reading as protocol
 use Rattle.protocol.specs.Reading.{kind_of, by_code, read_packet}
 use Rattle.wire.specs.declared.read.Refusal.{Refusal}
 use Rattle.wire.specs.declared.read.Refusal.TheVariants.{Length, Version, «Type» as Wrong-type, Checksum, Extensions, Malformed}
-use Rattle.wire.specs.Views.{refusal_of, Reads}
+use Rattle.wire.specs.Views.{refused_as, Reads}
 
 -- the codes are 5 to 9: none is that of a malformed packet
 not_ten : (p : List ℕ) → 10 ≡ fixed_code id_length p → ⊥
@@ -27,12 +27,12 @@ not_ten p = go (length_good id_length p) (version_good p) (type_good p) (good_su
     go true true true true false h = omega arith
     go true true true true true h = omega arith
 
-pub refused : (p : List ℕ) (r : Refusal) → protocol.refusal_of (refusal_of r) ≡ fixed_code id_length p → Reads p (Err r)
+pub refused : (p : List ℕ) (r : Refusal) → protocol.refusal_of (refused_as r) ≡ fixed_code id_length p → Reads p (Err r)
 unfolding read_packet
 refused p r h = record { means = go r h; near = omega arith }
   where
-    go : (r : Refusal) → protocol.refusal_of (refusal_of r) ≡ fixed_code id_length p
-        → refusal_of r ≡ by_code (fixed_code id_length p) id_length (kind_of (octet p 1)) p
+    go : (r : Refusal) → protocol.refusal_of (refused_as r) ≡ fixed_code id_length p
+        → refused_as r ≡ by_code (fixed_code id_length p) id_length (kind_of (octet p 1)) p
     go Length h = ap (λ (x : ℕ). by_code x id_length (kind_of (octet p 1)) p) h
     go Version h = ap (λ (x : ℕ). by_code x id_length (kind_of (octet p 1)) p) h
     go Wrong-type h = ap (λ (x : ℕ). by_code x id_length (kind_of (octet p 1)) p) h

@@ -32,22 +32,22 @@ message_of p h = record {
 }
 
 -- the paper's number of each refusal, and where a malformed packet breaks a rule
-abbrev pub refusal_of : Refusal → protocol.Reading
-refusal_of Length = protocol.refused 5
-refusal_of Version = protocol.refused 6
-refusal_of Wrong-type = protocol.refused 7
-refusal_of Checksum = protocol.refused 8
-refusal_of Extensions = protocol.refused 9
-refusal_of (Malformed at) = protocol.malformed at
+abbrev pub refused_as : Refusal → protocol.Reading
+refused_as Length = protocol.refused 5
+refused_as Version = protocol.refused 6
+refused_as Wrong-type = protocol.refused 7
+refused_as Checksum = protocol.refused 8
+refused_as Extensions = protocol.refused 9
+refused_as (Malformed at) = protocol.malformed at
 
 -- the same number, 0 where the fixed part is right
 abbrev pub fixed_number : {A : Type 0} → Result A Refusal → ℕ
 fixed_number (Ok _) = 0
-fixed_number (Err e) = protocol.refusal_of (refusal_of e)
+fixed_number (Err e) = protocol.refusal_of (refused_as e)
 
 abbrev pub reading_of : List ℕ → Result Head Refusal → protocol.Reading
 reading_of p (Ok h) = protocol.message (message_of p h)
-reading_of p (Err e) = refusal_of e
+reading_of p (Err e) = refused_as e
 
 -- where the records or receivers start
 abbrev pub start_of : Result Head Refusal → ℕ

@@ -3,14 +3,14 @@ use Rattle.actions.proofs.CaLaws.{answer_acts}
 use Rattle.slots.specs.State.{settings_of, rule_of}
 use Rattle.memory.specs.Memory.{memory_of, requests_of, kept_of}
 use Rattle.laws.specs.Lists.{is_empty}
-use Rattle.records.specs.Views.{records_in}
+use Rattle.records.specs.Views.{records_left}
 use Rattle.actions.specs.Steps.{ca_packet_by}
 use Rattle.actions.proofs.alignment.answer.Goals as goal
 
 pub returns : goal.returns
 returns c sender =
     let a = c.args in
-    let rs = records_in a.records in
+    let rs = records_left a.records in
     let m = memory_of a.memory.now in
     let picks = c.next_used-picks in
     let l = c.link_after-l in

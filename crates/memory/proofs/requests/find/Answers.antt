@@ -1,5 +1,5 @@
 use Rattle.std.proofs.Common.{ap, ◌∙◌, subst}
-use Rattle.memory.specs.Search.{place_of, FirstIndex}
+use Rattle.memory.specs.Search.{place_found, FirstIndex}
 use Rattle.memory.proofs.RequestSteps.{find_from, find_none, find_hit, find_miss, find_end}
 use Rattle.memory.proofs.requests.find.Goals as goal
 
@@ -7,7 +7,7 @@ pub returns-in_err-from : goal.returns-in_err-from
 returns-in_err-from c =
     let a = c.args in
     let p = c.requires in
-    ap place_of c.from_residual.ensures ∙ find_none a.memory.now a.k.at a.n a.e.name.octets.now p.k_bound a.e.tag c.tag_place.result a.k.below (search)
+    ap place_found c.from_residual.ensures ∙ find_none a.memory.now a.k.at a.n a.e.name.octets.now p.k_bound a.e.tag c.tag_place.result a.k.below (search)
     a.e.name.fits.0 a.e.tagged p.in_bounds c.tag_place.ensures.0
     (subst (FirstIndex a.memory.now c.tag_place.result a.e.tag) c.in_err-from.was c.first_index.ensures)
 

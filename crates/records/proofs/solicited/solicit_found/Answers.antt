@@ -2,8 +2,8 @@
 use Rattle.std.proofs.Common.{[], ◌∷◌, sym, ap, ◌∙◌}
 use Rattle.records.proofs.SolicitedLaws.{solicited_held, solicited_null}
 use Rattle.records.proofs.PutLaws.{puts_as}
-use Rattle.records.specs.Views.{csa_of}
-use Rattle.memory.specs.Search.{place_of}
+use Rattle.records.specs.Views.{record_shown}
+use Rattle.memory.specs.Search.{place_found}
 use Rattle.protocol.specs.Messages.{CsaRecord}
 use Rattle.records.proofs.solicited.solicit_found.Goals as goal
 
@@ -13,7 +13,7 @@ returns-in-Some c =
     let q = c.solicit_row in
     puts_as 64 a.at a.out.now q.new.out q.result
     (ap (λ (r : CsaRecord). r ∷ [])
-    (solicited_held a.memory.now (csa_of a.v) c.in-Some.i.at (sym c.requires.found_for ∙ ap place_of c.in-Some.is))) q.ensures
+    (solicited_held a.memory.now (record_shown a.v) c.in-Some.i.at (sym c.requires.found_for ∙ ap place_found c.in-Some.is))) q.ensures
 
 pub returns-in-None : goal.returns-in-None
 returns-in-None c =
@@ -21,4 +21,4 @@ returns-in-None c =
     let q = c.put_null in
     puts_as 64 a.at a.out.now q.new.out q.result
     (ap (λ (r : CsaRecord). r ∷ [])
-    (solicited_null a.memory.now (csa_of a.v) (sym c.requires.found_for ∙ ap place_of c.in-None.is))) q.ensures
+    (solicited_null a.memory.now (record_shown a.v) (sym c.requires.found_for ∙ ap place_found c.in-None.is))) q.ensures

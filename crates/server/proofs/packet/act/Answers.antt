@@ -2,7 +2,7 @@
 use Rattle.std.proofs.Common.{ap}
 use Rattle.server.proofs.ActLaws.{acts_request, acts_reply, acts_hello}
 use Rattle.server.proofs.ReadLaws.{body_is}
-use Rattle.records.specs.Views.{records_in}
+use Rattle.records.specs.Views.{records_left}
 use Rattle.slots.specs.State.{settings_of}
 use Rattle.rules.specs.Refusals.{is_hello}
 use Rattle.server.proofs.packet.act.Goals as goal
@@ -19,14 +19,14 @@ returns-in-CsuRequest c =
     let t = c.take_request in
     let l = c.live_of-live in
     acts_request a.p.octets.now a.p.head a.k.at a.time (settings_of a.s) a.slots.now a.memory.now t.new.memory a.out.now t.new.slots
-    t.new.out t.result l.result (records_in c.records.result) c.in-CsuRequest.is (l.ensures a.memory.now) c.records.ensures t.ensures
+    t.new.out t.result l.result (records_left c.records.result) c.in-CsuRequest.is (l.ensures a.memory.now) c.records.ensures t.ensures
 
 pub returns-in-CsuReply : goal.returns-in-CsuReply
 returns-in-CsuReply c =
     let a = c.args in
     let r = c.reply_all in
     acts_reply a.p.octets.now a.p.head a.k.at a.time (settings_of a.s) a.slots.now a.memory.now r.new.memory a.out.now
-    (records_in c.records-in-CsuReply.result) c.in-CsuReply.is c.records-in-CsuReply.ensures r.ensures
+    (records_left c.records-in-CsuReply.result) c.in-CsuReply.is c.records-in-CsuReply.ensures r.ensures
 
 pub returns-in-Hello : goal.returns-in-Hello
 returns-in-Hello c =

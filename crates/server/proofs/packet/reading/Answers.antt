@@ -6,7 +6,7 @@ use Rattle.server.proofs.PacketLaws.{read_refused}
 use Rattle.server.proofs.ReadLaws.{reaches, not_malformed}
 use Rattle.server.specs.Events.{DoesRead}
 use Rattle.slots.specs.State.{settings_of}
-use Rattle.wire.specs.Views.{reading_of, refusal_of}
+use Rattle.wire.specs.Views.{reading_of, refused_as}
 use Rattle.protocol.specs.Reading as reading
 use Rattle.server.proofs.packet.reading.Goals as goal
 
@@ -25,7 +25,7 @@ returns-in-Err c =
     let s = settings_of a.s.settings in
     subst (λ (m : reading.Reading). DoesRead m a.p.now a.k.at a.time a.s a.slots.now a.slots.now a.memory.now a.memory.now
     a.out.now a.out.now c.refuse.result) (ap (reading_of a.p.now) (sym c.in-Err.is) ∙ c.read.ensures.means)
-    (read_refused (refusal_of r) a.p.now a.k.at a.time a.s a.slots.now a.memory.now
+    (read_refused (refused_as r) a.p.now a.k.at a.time a.s a.slots.now a.memory.now
     (ap (λ (b : Bool). b && is_hello_type a.p.now) (not_malformed r (search rules) s x)) c.failure_of.result
     c.refuse.result a.out.now (sym (c.failure_of.ensures s x)) c.refuse.ensures)
 
@@ -36,4 +36,4 @@ returns-in-Err-Malformed c =
     let w = c.in-Err-Malformed in
     subst (λ (m : reading.Reading). DoesRead m a.p.now a.k.at a.time a.s a.slots.now d.new.slots a.memory.now
     d.new.memory a.out.now a.out.now d.result)
-    (sym (ap refusal_of w.field-0-is) ∙ ap (reading_of a.p.now) (sym w.is) ∙ c.read.ensures.means) (d.ensures w.field-0-0 a.out.now)
+    (sym (ap refused_as w.field-0-is) ∙ ap (reading_of a.p.now) (sym w.is) ∙ c.read.ensures.means) (d.ensures w.field-0-0 a.out.now)
