@@ -55,21 +55,58 @@ def code(text):
     return out
 
 
+START = re.compile(r"(\s*)((?:abbrev |unfoldable |infix\w* \d+ )*)(pub )?((?:abbrev |unfoldable )*)(record |data )?([^\s:(]+)")
+
+
 def terms(text, specs):
-    """Definitions of a file of specs/ (whole), or statements of one of proofs/ (without their proofs), by name."""
+    """Definitions of a file of specs/ (whole), or statements of one of proofs/ (without their proofs), by name: each `pub` line begins one, in a
+    `module _ (..) where` too, whose head stands before it, but for the fields of a record."""
     out = {}
-    blocks = re.split(r"\n\s*\n", text)
-    for b in blocks:
-        b = "\n".join(line for line in b.split("\n") if not line.lstrip().startswith("--"))
-        m = re.match(r"\s*(?:abbrev |unfoldable |infix\w* \d+ )*(pub )(?:abbrev |unfoldable )*(record |data )?([^\s:(]+)", b)
-        if not m or re.match(r"\s*(pub )?(use|mod)\b", b):
+    heads, open_head = [], False
+    name, kept, deep, record, stopped = None, [], 0, False, False
+
+    def close():
+        if name:
+            key = ("definition" if specs else "statement", name)
+            value = re.sub(r"\s+", " ", " ".join([h for _, h in heads] + kept)).strip()
+            # a name that two modules of a file have
+            out[key] = out[key] + " | " + value if key in out else value
+
+    for line in text.split("\n") + [""]:
+        if line.lstrip().startswith("--"):
             continue
-        if specs:
-            out[("definition", m.group(3))] = re.sub(r"\s+", " ", b).strip()
-        else:
-            lines = b.split("\n")
-            stop = next((i for i, line in enumerate(lines) if i and re.match(r"\s*(unfolding\b|%s\b.*=)" % re.escape(m.group(3)), line)), len(lines))
-            out[("statement", m.group(3))] = re.sub(r"\s+", " ", " ".join(lines[:stop])).strip()
+        at = len(line) - len(line.lstrip())
+        if open_head:
+            heads[-1] = (heads[-1][0], heads[-1][1] + " " + line.strip())
+            open_head = not line.rstrip().endswith("where")
+            continue
+        m = START.match(line)
+        inner = record and line.startswith(" " * (deep + 1))
+        if not line.strip() or (m and m.group(3) and not inner):
+            close()
+            name, record = None, record and bool(line.strip())
+        if line.strip() and not inner:
+            if name and at <= (heads[-1][0] if heads else -1):
+                close()
+                name = None
+            while heads and at <= heads[-1][0]:
+                heads.pop()
+        if re.match(r"\s*module _\b", line):
+            close()
+            name, record = None, False
+            heads.append((at, line.strip()))
+            open_head = not line.rstrip().endswith("where")
+        elif m and m.group(3) and not inner and not re.match(r"\s*pub (use|mod)\b", line):
+            name, kept, deep, record, stopped = m.group(6), [line], len(m.group(1)), bool(m.group(5)), False
+        elif name and not inner and re.match(r" {%d}(abbrev |unfoldable )*[^\s:]+ :( |$)" % deep, line):
+            # a private statement right behind it
+            close()
+            name = None
+        elif name:
+            proof = re.match(r"\s*(unfolding\b|%s(?!\S).*=)" % re.escape(name), line)
+            stopped = stopped or bool(proof and not specs and not record)
+            if not stopped:
+                kept.append(line)
     return out
 
 

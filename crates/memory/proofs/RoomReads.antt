@@ -1,6 +1,6 @@
 -- What the functions on one room and on the list's size answer.
 -- Assumes nothing.
-use Rattle.std.proofs.Common.{◌≡◌, ℕ, ◌+◌, ◌-◌, ◌*◌, ◌/◌, ◌%◌, ◌<◌, ◌≤◌, min, Bool, true, false, ◌&&◌, eqb, List, [], ◌++◌, length, get_or, take, drop, set, sym, refl, ap, ◌∙◌, subst, inl, arith, length-take, w32, SFits, append_assoc, eq-eqb, ne_eqb}
+use Rattle.std.proofs.Common.{◌≡◌, ℕ, ◌+◌, ◌-◌, ◌*◌, ◌/◌, ◌%◌, ◌<◌, ◌≤◌, min, Bool, true, false, ◌&&◌, eqb, List, [], ◌++◌, length, get_or, take, drop, set, sym, refl, ap, ◌∙◌, subst, inl, arith, length-take, w32, SFits, append_assoc, eq-eqb, ne_eqb, length-drop}
 use lib.Seq.{set-get_or}
 use Rattle.std.specs.List.{copy_within}
 use Rattle.laws.proofs.Lists.{part_length}
@@ -61,6 +61,14 @@ module _ (s : List ℕ) (k i at : ℕ) (place : at ≡ request_place k i) where
         → r ≡ asks (entry_named name) (get_or (rooms_in s k) i no_request)
     asks_name r e f =
         f ∙ sym (asks_is ∙ ap (λ b. b && same (room_name s at) name) (eq-eqb (octet s (request_tag_place k i)) (tag_of name) (e ∙ own)))
+
+  pub octets_read : (v q : List ℕ) → i < 64 → at + 28 ≤ length s → v ≡ part s at 28 → q ≡ v
+      → (length q ≡ 28) × (request_of (octet s (request_tag_place k i)) q ≡ get_or (rooms_in s k) i no_request)
+  octets_read v q h fits e w =
+      let n : length v ≡ 28 = ap length e ∙ simp (length-take, length-drop) (omega arith) in (
+        ap length w ∙ n,
+        ap (request_of (octet s (request_tag_place k i))) (w ∙ e ∙ ap (λ (a : ℕ). part s a 28) place) ∙ request_of_lem s k i ∙ sym (rooms_get s k i h),
+      )
 
   pub room_put : (t v : List ℕ) (tag to : ℕ) → k < 8 → i < 64 → length s ≡ memory_size → length v ≡ 28 → to ≡ request_tag_place k i
       → t ≡ set (put_at s at v) to tag

@@ -1,7 +1,7 @@
 -- Octets rotated, and with them the requests of a list.
 -- The octets are given by where each one came from; so room j holds what room j + 4 held, or one of the first four; the list follows cell by cell.
 -- Assumes nothing.
-use Rattle.std.proofs.Common.{◌≡◌, ℕ, ◌+◌, ◌-◌, ◌*◌, ◌<◌, ◌≤◌, min, ◌⊎◌, List, ◌++◌, length, get_or, take, drop, sym, ap, ◌∙◌, append_assoc, inl, inr, arith, length-append, length-drop, drop_of_length-le, length-take, get_or-drop, take_all, get_or-take, get_or-append-add, ext_get_or}
+use Rattle.std.proofs.Common.{◌≡◌, ℕ, ◌+◌, ◌-◌, ◌*◌, ◌<◌, ◌≤◌, min, ◌⊎◌, List, ◌++◌, length, get_or, take, drop, sym, ap, ◌∙◌, append_assoc, inl, inr, arith, length-append, length-drop, drop_of_length-le, length-take, get_or-drop, take_all, get_or-take, get_or-append-add, ext_get_or, replicate, take_at}
 use native.Mathlib.Decide.{dec_le}
 use lib.ListN.{get_or-append}
 use lib.Seq.{paste}
@@ -203,3 +203,15 @@ rotate_none s k n slot long few =
     let h : length l ≤ 4 = omega arith in
     let e : l ≡ rotated l = sym (λ z. drop_of_length-le l h z ++ take_all 4 l h z) in
     (listed_none s k slot).others ∙ ap (λ (z : List Request). requests_put k z (memory_of s)) (e ∙ ap rotated (sym (requests_of_lem s k slot)))
+
+-- the octets that `first_of` keeps
+pub first_kept : (s v q : List ℕ) (at n : ℕ) → n ≤ 112 → at + n ≤ length s → v ≡ part s at n → q ≡ take (length v) v ++ drop (length v) (replicate 112 0)
+    → (length q ≡ 112) × (take n q ≡ part s at n)
+first_kept s v q at n h fits e f =
+    let rest : List ℕ = drop (length v) (replicate 112 0) in
+    let m : length v ≡ n = ap length e ∙ part_length s at n fits in
+    let w : take (length v) v ≡ v = take_all (length v) v (omega arith) in
+    let g : q ≡ v ++ rest = f ∙ ap (λ (z : List ℕ). z ++ rest) w in
+    let a = length-append v rest in
+    let b : length rest ≡ 112 - length v = length-drop (length v) (replicate 112 0) in
+    (ap length g ∙ a ∙ omega arith, ap (take n) g ∙ take_at v rest n m ∙ e)

@@ -34,7 +34,8 @@ impl Name {
 
 pub fn of_entry(key: &[u8], originator: &[u8]) -> Name
     requires { FitsKey key.now originator.now }
-    ensures { take result.len result.octets ≡ key.now ++ originator.now }
+    ensures { (take result.len result.octets ≡ key.now ++ originator.now)
+        × ((result.len ≡ length key.now + 4) × (length result.octets ≡ 20)) }
 {
     let n = key.len();
     let mut b = [0u8; 20];

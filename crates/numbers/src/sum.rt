@@ -5,13 +5,20 @@ ghost use Rattle.numbers.specs.Words.{low_first, low_total};
 
 use octets::octet;
 
+// Four octets as a number, the low one first. By arithmetic: the sum is taken with no array.
+fn low_first(a: u8, b: u8, c: u8, d: u8) -> u64
+    ensures { (result ≡ low_first a b c d) × (result < 4294967296) }
+{
+    (((d as u64) * 256 + (c as u64)) * 256 + (b as u64)) * 256 + (a as u64)
+}
+
 // The four octets from a place on.
 fn word(p: &[u8], at: usize) -> u64
     requires { at + 4 ≤ length p.now }
     ensures { let s = p.now in
         (result ≡ low_first (slice_index s at) (slice_index s (at + 1)) (slice_index s (at + 2)) (slice_index s (at + 3))) × (result < 4294967296) }
 {
-    u64::from(u32::from_le_bytes([p[at], p[at + 1], p[at + 2], p[at + 3]]))
+    low_first(p[at], p[at + 1], p[at + 2], p[at + 3])
 }
 
 // The octets behind the last whole word, fewer than four.
@@ -20,7 +27,7 @@ fn rest(p: &[u8], at: usize) -> u64
     ensures { let s = p.now in
         (result ≡ low_first (slice_index s at) (slice_index s (at + 1)) (slice_index s (at + 2)) 0) × (result < 4294967296) }
 {
-    u64::from(u32::from_le_bytes([octet(p, at), octet(p, at + 1), octet(p, at + 2), 0]))
+    low_first(octet(p, at), octet(p, at + 1), octet(p, at + 2), 0)
 }
 
 // The sum of the words. A loop over whole words with no other way out is vectorised.

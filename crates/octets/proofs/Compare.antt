@@ -1,12 +1,19 @@
--- The order of slices compares octets from the front.
+-- The equality and the order of slices compare octets from the front.
 -- Assumes nothing.
-use Rattle.std.proofs.Common.{◌≡◌, ◌≢◌, ℕ, Bool, List, [], ◌∷◌, refl, inl, inr, arith, Option, Some, Ordering}
+use Rattle.std.proofs.Common.{◌≡◌, ◌≢◌, ℕ, Bool, ◌&&◌, List, [], ◌∷◌, refl, ap, inl, inr, arith, Option, Some, Ordering}
 use Rattle.std.proofs.Common.{eq-eqb, ne_eqb, lt-ltb, le-ltb, eqb, ltb}
 use Rattle.std.specs.Ordering.{is_some_and, is_gt, nat_cmp, as_partial_cmp, partial_ordering_then, partial_gt}
 use Rattle.std.proofs.lemmas.Bool.{cases_lt}
 use Rattle.std.specs.Cmp.Lexicographic.{slice_partial_cmp}
+use lib.Pointwise.{pointwise}
 use Rattle.laws.specs.Choice.{pick}
-use Rattle.laws.specs.Tables.{greater}
+use Rattle.laws.specs.Tables.{same, greater}
+
+pub same_by_equal : (a b : List ℕ) → pointwise eqb a b ≡ same a b
+same_by_equal [] [] = refl
+same_by_equal [] (y ∷ b) = refl
+same_by_equal (x ∷ a) [] = refl
+same_by_equal (x ∷ a) (y ∷ b) = ap (λ (r : Bool). eqb x y && r) (same_by_equal a b)
 
 -- the first octet of each
 step : (x y : ℕ) (r : Option Ordering) (g : Bool) → is_some_and is_gt r ≡ g

@@ -14,11 +14,11 @@ use memory::{Storage, store};
 use protocol::{Index, SlotIndex};
 use slots::answers::Failure;
 use slots::state;
-use slots::state::{Server, Settings};
+use slots::state::{Server, Settings, Slot};
 use table::Slots;
 
 // 17 for HelloInterval or DeadFactor 0.
-pub fn start(settings: Settings, slots: &mut Slots, memory: &mut Storage) -> Answer
+pub fn start(settings: Settings, slots: &mut [Slot], memory: &mut Storage) -> Answer
     ensures { Starts settings slots.old slots.new memory.old memory.new result }
 {
     let id = settings.id;

@@ -24,7 +24,7 @@ pub struct Settings {
 // A peer slot. `listed` is the row that the next CA answer goes on from, `cursor` the row that the next update request does,
 // `updates` how many update requests were written at polls since the slot last entered Negotiate, up to 65535 (document 02, L1).
 // `used` beside `peer`, and no Option: `Slot` of the rules has both, and `slot_of` maps field to field.
-#[derive(Clone, Copy)]
+#[derive(Clone, Copy, PartialEq, Eq)]
 pub struct Slot {
     pub used: bool,
     pub peer: [u8; 4],

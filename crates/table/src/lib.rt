@@ -65,8 +65,8 @@ pub fn empty() -> Slots
     [state::fresh_slot(); 8]
 }
 
-// The same in place.
-pub fn clear(t: &mut Slots)
+// The same in place, for a table of any length.
+pub fn clear(t: &mut [Slot])
     ensures { (k : ℕ) → slot_in t.new k ≡ unused }
 {
     t.fill(state::fresh_slot());

@@ -23,11 +23,14 @@ fn refusal_number(r: Refusal) -> u64
     }
 }
 
+// A malformed packet's with its position: its number and the space are printed at once.
 fn refusal_line(r: Refusal) {
-    print::number(refusal_number(r));
-    if let Refusal::Malformed(at) = r {
-        print::space();
-        print::number(at as u64);
+    match r {
+        Refusal::Malformed(at) => {
+            print::text(b"10 ");
+            print::number(at as u64);
+        }
+        _ => print::number(refusal_number(r)),
     }
     print::line_end();
 }

@@ -10,7 +10,7 @@ use lib.ListN.{length, take, drop, get_or, length-append, length-drop, take-appe
 use lib.Seq.{take_all, take_at, length-take-le}
 use Rattle.std.specs.Int.{to_be_bytes, w16, w32}
 use Rattle.laws.specs.Puts.{put_at, written, Put}
-use Rattle.laws.proofs.Puts.{put_none, three_puts, put_before, put_zero, take_written, written_again, set_written}
+use Rattle.laws.proofs.Puts.{put_none, then_put, three_puts, put_before, put_zero, take_written, written_again, set_written}
 use Rattle.protocol.specs.declared.Kind.{Kind}
 use Rattle.protocol.specs.declared.Kind.TheVariants.{Ca, Hello}
 use Rattle.protocol.specs.declared.CaNumber.{CaNumber}
@@ -196,9 +196,21 @@ module _ (c : Common) (widths : (length c.sender ≡ 4) × (length c.receiver �
       (w [] out (omega arith) (subst (λ (x : ℕ). Put [] x out out n) (sym size) (put_none out n)))
 
 -- ---- records put one behind the other
+records_end : (rs : List CsaRecord) (r : CsaRecord) → records_octets [] (rs ++ (r ∷ [])) ≡ records_octets [] rs ++ record_octets 0 r
+unfolding records_octets
+records_end [] r = append-nil (record_octets 0 r)
+records_end (x ∷ rs) r =
+    ap (λ (z : List ℕ). record_octets 0 x ++ z) (records_end rs r) ∙ sym (append_assoc (record_octets 0 x) (records_octets [] rs) (record_octets 0 r))
+
 pub no_records : (at : ℕ) (out : List ℕ) → Put (records_octets [] []) at out out at
 unfolding records_octets
 no_records at out = put_none out at
+
+pub one_record_more : (rs : List CsaRecord) (r : CsaRecord) {at m n : ℕ} {out mid after : List ℕ} → m ≤ length out → Put (records_octets [] rs) at out mid m
+    → Put (record_octets 0 r) m mid after n → Put (records_octets [] (rs ++ (r ∷ []))) at out after n
+one_record_more rs r {at = at} {n = n} {out = out} {after = after} room p q =
+    let x = p.next in
+    subst (λ (z : List ℕ). Put z at out after n) (sym (records_end rs r)) (then_put out at (records_octets [] rs) (record_octets 0 r) (omega arith) p q)
 
 -- ---- a record put of its parts
 module _ (hops : ℕ) (null : Bool) (number : CsaNumber) (name payload : List ℕ) (long : 4 ≤ length name) where
