@@ -55,57 +55,53 @@ def code(text):
     return out
 
 
-START = re.compile(r"(\s*)((?:abbrev |unfoldable |infix\w* \d+ )*)(pub )?((?:abbrev |unfoldable )*)(record |data )?([^\s:(]+)")
+START = re.compile(r"(\s*)(?:abbrev |unfoldable |infix\w* \d+ )*(pub )?(?:abbrev |unfoldable )*(record |data )?([^\s:(]+)")
 
 
-def terms(text, specs):
-    """Definitions of a file of specs/ (whole), or statements of one of proofs/ (without their proofs), by name: each `pub` line begins one, in a
-    `module _ (..) where` too, whose head stands before it, but for the fields of a record."""
-    out = {}
-    heads, open_head = [], False
-    name, kept, deep, record, stopped = None, [], 0, False, False
-
-    def close():
-        if name:
-            key = ("definition" if specs else "statement", name)
-            value = re.sub(r"\s+", " ", " ".join([h for _, h in heads] + kept)).strip()
-            # a name that two modules of a file have
-            out[key] = out[key] + " | " + value if key in out else value
-
-    for line in text.split("\n") + [""]:
+def headed(text):
+    """The lines but comments, each behind the heads of the `module _ (..) where` that it stands in; a head counts as an empty line."""
+    heads, opened = [], False
+    for line in text.split("\n"):
         if line.lstrip().startswith("--"):
             continue
         at = len(line) - len(line.lstrip())
-        if open_head:
+        if opened:
             heads[-1] = (heads[-1][0], heads[-1][1] + " " + line.strip())
-            open_head = not line.rstrip().endswith("where")
-            continue
+        else:
+            while line.strip() and heads and at <= heads[-1][0]:
+                heads.pop()
+            if not re.match(r"\s*module _\b", line):
+                yield " ".join(head for _, head in heads), line
+                continue
+            heads.append((at, line.strip()))
+        opened = not line.rstrip().endswith("where")
+        yield "", ""
+    yield "", ""
+
+
+def terms(text, specs):
+    """Definitions of a file of specs/ (whole), or statements of one of proofs/ (without their proofs), by name: each `pub` line begins one, but
+    for the fields of a record."""
+    out = {}
+    name, kept, deep, record, proof = None, [], 0, False, False
+    for head, line in headed(text):
         m = START.match(line)
         inner = record and line.startswith(" " * (deep + 1))
-        if not line.strip() or (m and m.group(3) and not inner):
-            close()
-            name, record = None, record and bool(line.strip())
-        if line.strip() and not inner:
-            if name and at <= (heads[-1][0] if heads else -1):
-                close()
-                name = None
-            while heads and at <= heads[-1][0]:
-                heads.pop()
-        if re.match(r"\s*module _\b", line):
-            close()
-            name, record = None, False
-            heads.append((at, line.strip()))
-            open_head = not line.rstrip().endswith("where")
-        elif m and m.group(3) and not inner and not re.match(r"\s*pub (use|mod)\b", line):
-            name, kept, deep, record, stopped = m.group(6), [line], len(m.group(1)), bool(m.group(5)), False
-        elif name and not inner and re.match(r" {%d}(abbrev |unfoldable )*[^\s:]+ :( |$)" % deep, line):
-            # a private statement right behind it
-            close()
+        begins = m and m.group(2) and not inner and not re.match(r"\s*pub (use|mod)\b", line)
+        # a private statement, or one of less depth, right behind it
+        other = not inner and (re.match(r" {%d}(abbrev |unfoldable )*[^\s:]+ :( |$)" % deep, line) or not line.startswith(" " * deep))
+        if name and (begins or other or not line.strip()):
+            key = ("definition" if specs else "statement", name)
+            value = re.sub(r"\s+", " ", " ".join(kept)).strip()
+            # a name that two modules of a file have
+            out[key] = out[key] + " | " + value if key in out else value
             name = None
+        record = record and bool(line.strip())
+        if begins:
+            name, kept, deep, record, proof = m.group(4), [head, line], len(m.group(1)), bool(m.group(3)), False
         elif name:
-            proof = re.match(r"\s*(unfolding\b|%s(?!\S).*=)" % re.escape(name), line)
-            stopped = stopped or bool(proof and not specs and not record)
-            if not stopped:
+            proof = proof or bool(not specs and not record and re.match(r"\s*(unfolding\b|%s(?!\S).*=)" % re.escape(name), line))
+            if not proof:
                 kept.append(line)
     return out
 

@@ -2,11 +2,15 @@
 -- Assumes nothing.
 use Prim.Native.Nat.{ℕ, suc, ◌≤◌, ◌<◌}
 use mathlib.Core.Path.{◌≡◌, refl, sym, ap, ◌∙◌}
+use mathlib.Core.Logic.{inl, inr}
 use mathlib.Core.Bool.{Bool, true, false, ◌&&◌, ◌||◌, false≢true}
 use mathlib.Core.List.{List, [], ◌∷◌, ◌++◌, map}
 use native.Mathlib.Omega.{arith}
 use lib.Dec.{eqb, ltb, leb-suc-suc}
-use lib.ListN.{length, length-append}
+use lib.ListN.{length, length-append, get_or, set}
+use Rattle.std.proofs.lemmas.Bool.{cases_eq}
+use Rattle.std.proofs.lemmas.Grind.{get_or-set_at}
+use Rattle.std.proofs.lemmas.List.{get_or-set_other}
 use borrow.Author.Tests.{lt-ltb, eqb-true, eqb-false, eq-eqb, ne_eqb}
 use Rattle.laws.specs.Choice.{pick}
 use Rattle.laws.specs.Lists.{All}
@@ -20,6 +24,14 @@ module _ {A : Type 0} (k : ℕ) (b : A) (f : ℕ → A) where
 
   pub on_other : (j : ℕ) → (j ≡ k → ⊥) → on k b f j ≡ f j
   on_other j far = rw (ne_eqb j k far) refl
+
+-- the cells of a list, one of them set
+pub set_on : {A : Type 0} (l : List A) (k : ℕ) (y d : A) (j : ℕ) → k < length l → get_or (set l k y) j d ≡ on k y (λ i. get_or l i d) j
+set_on l k y d j h =
+    elim (cases_eq j k) [
+      | inl e ↦ get_or-set_at l k j y d e h ∙ sym (on_here k y (λ i. get_or l i d)) ∙ ap (on k y (λ i. get_or l i d)) (sym e)
+      | inr f ↦ get_or-set_other l k j y d f ∙ sym (on_other k y (λ i. get_or l i d) j f)
+    ]
 
 -- ---- some cell passes where one is counted
 count_by : (b more : Bool) (n : ℕ) → (0 < n → more ≡ true) → 0 < pick b (suc n) n → (b || more) ≡ true
