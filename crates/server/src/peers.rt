@@ -3,8 +3,10 @@ ghost use Rattle.std.specs.Prelude.{◌≡◌, ◌&&◌, List, ℕ, length, IfOk
 ghost use Rattle.laws.specs.Tables.{has, same};
 ghost use Rattle.rules.specs.Events as events;
 ghost use Rattle.rules.specs.Refusals as rules;
-ghost use Rattle.table.specs.Slots.{slot_in};
+ghost use Rattle.rules.specs.Server.{settings_code};
+ghost use Rattle.table.specs.Slots.{unused, slot_in};
 ghost use Rattle.slots.specs.Codes.{code_number};
+ghost use Rattle.slots.specs.State.{settings_of};
 ghost use Rattle.server.specs.State.{slots_of, server_of, answer_of, Steps, Starts};
 
 use crate::answers;
@@ -17,9 +19,10 @@ use slots::state;
 use slots::state::{Server, Settings, Slot};
 use table::Slots;
 
-// 17 for HelloInterval or DeadFactor 0.
+// 17 for HelloInterval or DeadFactor 0. The table may be longer than eight slots: `Starts` speaks of eight, `cleared` of all.
 pub fn start(settings: Settings, slots: &mut [Slot], memory: &mut Storage) -> Answer
-    ensures { Starts settings slots.old slots.new memory.old memory.new result }
+    ensures starts { Starts settings slots.old slots.new memory.old memory.new result }
+    ensures cleared { settings_code (settings_of settings) ≡ 0 → (k : ℕ) → slot_in slots.new k ≡ unused }
 {
     let id = settings.id;
     octets::bounded(&id);

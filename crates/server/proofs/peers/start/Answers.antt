@@ -5,8 +5,8 @@ use Rattle.slots.specs.State.{settings_of}
 use Rattle.server.proofs.PeerLaws.{fresh_server, both_set, starts_so}
 use Rattle.server.proofs.peers.start.Goals as goal
 
-pub returns : goal.returns
-returns c =
+pub returns-clause-starts : goal.returns-clause-starts
+returns-clause-starts c =
     let a = c.args in
     let n : length a.settings.id ≡ 4 = search rules in
     let typed : TypedSettings (settings_of a.settings) = record {
@@ -16,8 +16,7 @@ returns c =
       interval_fits = search rules;
       factor_fits = search rules;
     } in
-    let t = c.clear in
     let m = c.fresh in
-    starts_so a.settings (record { settings = a.settings; time = 0 }) c.take.result a.slots.now t.new.t a.memory.now m.new.memory
+    starts_so a.settings (record { settings = a.settings; time = 0 }) c.take.result a.slots.now _ a.memory.now m.new.memory
     typed (both_set a.settings n c.if-settings-eq0.false c.if-settings-eq0-2.false)
-    (fresh_server a.settings t.new.t m.new.memory t.ensures m.ensures) c.take.ensures
+    (fresh_server a.settings _ m.new.memory (search rules) m.ensures) c.take.ensures
