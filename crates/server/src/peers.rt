@@ -19,7 +19,7 @@ use slots::state;
 use slots::state::{Server, Settings, Slot};
 use table::Slots;
 
-// 17 for HelloInterval or DeadFactor 0. The table may be longer than eight slots: `Starts` speaks of eight, `cleared` of all.
+// 17 for HelloInterval or DeadFactor 0. The table may be longer than eight slots: of one that is cleared `Starts` says what the first eight are, `cleared` all.
 pub fn start(settings: Settings, slots: &mut [Slot], memory: &mut Storage) -> Answer
     ensures starts { Starts settings slots.old slots.new memory.old memory.new result }
     ensures cleared { settings_code (settings_of settings) ≡ 0 → (k : ℕ) → slot_in slots.new k ≡ unused }
